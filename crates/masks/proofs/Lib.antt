@@ -1,0 +1,4 @@
+pub mod Bits
+pub mod Built
+pub mod Counting
+pub mod Lowest
