@@ -119,3 +119,12 @@ pub impl Measure for Totals as TotalsMeasure {
         a | b
     }
 }
+
+// What the three measures say of all sequences of a row together: the least and the greatest total,
+// and the set of those totals that are below 64.
+#[derive(Clone, Copy, PartialEq, Eq, Debug)]
+pub struct Figures {
+    pub least: u64,
+    pub greatest: u64,
+    pub totals: u64,
+}

@@ -1,0 +1,9 @@
+pub mod Lists
+pub mod Overs
+pub mod ForwardPlace
+pub mod BackwardPlace
+pub mod Turns
+pub mod Sees
+pub mod Finds
+pub mod KindsSee
+pub mod Shown

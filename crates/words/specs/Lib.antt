@@ -1,0 +1,4 @@
+pub mod Occurrences
+pub mod Search
+pub mod Laws
+pub mod Faults
