@@ -1,2 +1,3 @@
-pub mod Reports
 pub mod First
+pub mod Posting
+pub mod Reports

@@ -3,7 +3,10 @@
 // A fault is an enum with a case for each reason, and `report` gives its number, the layer that
 // found it, and the place at fault. docs/refusals.md has the whole list.
 ghost use mathlib.Core.Path.{_≡_};
+ghost use Rattle.refusals.specs.declared.PostError.the-variants.{Fault, Memory};
 ghost use Rattle.refusals.specs.Reports.{refusal, post-report, plan-report};
+use std::alloc::AllocError;
+use std::alloc::Refused;
 
 // Which part of the kernel found the fault.
 #[derive(Clone, Copy, PartialEq, Eq, Debug)]
@@ -41,8 +44,24 @@ pub enum PostFault {
     States,
     // A next state is not below the number of states: the index of the table's byte.
     NextState { place: usize },
+    // A cell is not below the limit: its index.
+    Cell { place: usize },
+    // A range of cells is empty or runs past the last.
+    Range,
+    // A cell's mask has no duty.
+    EmptyMask,
     // A word's duty or a class is above 15: its index.
     Duty { place: usize },
+    // A cell stands twice in a row: the first index whose cell stood before.
+    Repeated { place: usize },
+    // A number stands for no sense.
+    Sense,
+    // A tally has no count.
+    EmptyTally,
+    // A pair would have more than 72 rules.
+    TooManyRules,
+    // The family has 24 rules already.
+    FamilyFull,
 }
 
 impl PostFault {
@@ -51,18 +70,71 @@ impl PostFault {
     {
         match self {
             PostFault::Length { place } => told(4, Layer::Post, place),
+            PostFault::Cell { place } => told(6, Layer::Post, place),
+            PostFault::Range => told(6, Layer::Post, 0),
+            PostFault::EmptyMask => told(7, Layer::Post, 0),
             PostFault::States => told(8, Layer::Post, 0),
             PostFault::NextState { place } => told(8, Layer::Post, place),
             PostFault::Duty { place } => told(9, Layer::Post, place),
+            PostFault::Repeated { place } => told(10, Layer::Post, place),
+            PostFault::Sense => told(11, Layer::Post, 0),
+            PostFault::EmptyTally => told(12, Layer::Post, 0),
+            PostFault::TooManyRules => told(15, Layer::Post, 0),
+            PostFault::FamilyFull => told(24, Layer::Post, 0),
         }
+    }
+}
+
+// Why posting did not go through: a fault of what was posted, or want of memory, which has no number.
+#[derive(Clone, Copy, PartialEq, Eq, Debug)]
+pub enum PostError {
+    Fault(PostFault),
+    Memory,
+}
+
+pub impl From<PostFault> for PostError as PostErrorFromFault {
+    ghost converts = { λ fault r. r ≡ Fault fault };
+
+    fn from(fault: PostFault) -> PostError {
+        PostError::Fault(fault)
+    }
+}
+
+pub impl From<AllocError> for PostError as PostErrorFromAlloc {
+    ghost converts = { λ _ r. r ≡ Memory };
+
+    fn from(_e: AllocError) -> PostError {
+        PostError::Memory
+    }
+}
+
+pub impl<T: Drop> From<Refused<T>> for PostError as PostErrorFromRefused {
+    ghost converts = { λ _ r. r ≡ Memory };
+
+    fn from(_e: Refused<T>) -> PostError {
+        PostError::Memory
     }
 }
 
 // Why a call on lent memory or on a plan is turned down.
 #[derive(Clone, Copy, PartialEq, Eq, Debug)]
 pub enum PlanFault {
+    // A cell is not below 192.
+    Cell,
+    // A cell's mask has no duty.
+    EmptyMask,
+    // A tally has no count.
+    EmptyTally,
+    // A rule's number is not below the number of rules.
+    Rule,
     // The lent workspace is too short.
     Workspace,
+    // The plan is void.
+    Void,
+    // Sixteen levels are open.
+    LevelsFull,
+    // No level is open.
+    NoLevel,
 }
 
 impl PlanFault {
@@ -70,7 +142,14 @@ impl PlanFault {
         ensures { λ r. ⌜ r ≡ plan-report self ⌝ }
     {
         match self {
+            PlanFault::Cell => told(6, Layer::Plan, 0),
+            PlanFault::EmptyMask => told(7, Layer::Plan, 0),
+            PlanFault::EmptyTally => told(12, Layer::Plan, 0),
+            PlanFault::Rule => told(13, Layer::Plan, 0),
             PlanFault::Workspace => told(14, Layer::Plan, 0),
+            PlanFault::Void => told(25, Layer::Plan, 0),
+            PlanFault::LevelsFull => told(26, Layer::Plan, 0),
+            PlanFault::NoLevel => told(27, Layer::Plan, 0),
         }
     }
 }

@@ -1,0 +1,4 @@
+pub mod Masks
+pub mod Meaning
+pub mod Laws
+pub mod Pairs

@@ -1,0 +1,6 @@
+pub mod Order
+pub mod Runs
+pub mod Largest
+pub mod Rounds
+pub mod Halfway
+pub mod Determined

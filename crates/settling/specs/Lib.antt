@@ -1,0 +1,4 @@
+pub mod Masks
+pub mod Rounds
+pub mod Largest
+pub mod Told
