@@ -1,0 +1,4 @@
+pub mod Laws
+pub mod Used
+pub mod Family
+pub mod FamilyLaws

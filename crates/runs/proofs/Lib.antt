@@ -1,0 +1,14 @@
+pub mod Tests
+pub mod Sieves
+pub mod Decided
+pub mod Rows
+pub mod Narrower
+pub mod Apart
+pub mod Uses
+pub mod Fillings
+pub mod Left
+pub mod Spans
+pub mod Meeting
+pub mod Judged
+pub mod Listed
+pub mod Putting

@@ -1,0 +1,4 @@
+pub mod Choosing
+pub mod Stays
+pub mod Codes
+pub mod Run
