@@ -10,5 +10,5 @@ pub fn worked_examples() -> usize
     ensures count { λ r. ⌜ r ≡ length examples ⌝ }
     ensures all_hold { λ _. ⌜ AllHold examples ⌝ }
 {
-    3
+    8
 }
