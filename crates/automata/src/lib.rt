@@ -82,8 +82,8 @@ pub impl CounterAutomaton for Among as AmongAutomaton {
     }
 }
 
-// A number of states, and the steps in bytes that the caller lends: byte 16 * state + duty has the
-// next state in its high four bits and the increase in its low four.
+// A number of states, and the steps in bytes that the caller lends: the byte at 16 * state + duty is
+// 16 times the next state plus the increase.
 #[derive(Clone, Copy)]
 pub struct Table<'a> {
     states: usize,

@@ -1,4 +1,4 @@
--- Rules whose run keeps only what a sequence uses, said of a rule's meaning alone.
+-- Rules that keep nothing without a sequence for it, as a property of a rule's meaning.
 use mathlib.Core.Path.{_≡_}
 use mathlib.Core.Bool.{true}
 use mathlib.Core.List.{List}
@@ -21,8 +21,8 @@ use Rattle.runs.specs.Run.{along, counting-rule}
 use Rattle.runs.proofs.Decided.{meets-decided}
 use Rattle.runs.proofs.Left.{duty-left, count-left}
 
--- An at-most or at-least rule of a counting automaton: its cells are different; it allows a filling where the total meets the count; and every
--- duty and count that a run leaves is used by a sequence over the masks at entry that meets an open count.
+-- Some automaton and one of the first two senses explain the rule: no cell stands twice in it, a filling whose total meets the count is accepted,
+-- and whatever a run leaves, duty or count, occurs in a sequence over the masks before the run that meets a count open then.
 pub record KeepsOnlyUsed (r : Rule) : Type 0 where
   pub automaton : Automaton
   pub sense : Sense

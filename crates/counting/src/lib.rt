@@ -1,4 +1,4 @@
-// The counting family: one automaton of whichever kind, and up to 24 rules over it.
+// The counting family: rules, 24 at the most, that all count with one and the same automaton.
 //
 // A rule is posted with its row, its sense and its start tally; the family then runs it and tells its
 // figures. Want of memory is one more answer of `post`, and leaves the family as it was.

@@ -26,20 +26,20 @@ pub record LawfulRule (r : Rule) : Type 0 where
   pub starts-open : 0 < r .start
   pub start-fits : r .start < 2 ^ 64
   pub scope-inside : (i : ℕ) → OneOf (r .scope) i → i < 192
-  -- a run changes only the rule's cells and its own tally
+  -- a run touches no cell but the rule's own
   pub changes-only-scope : (c : List ℕ) (t i : ℕ) → Proper c t → (OneOf (r .scope) i → ⊥) → getD (r .leaves c t .cells) i 0 ≡ getD c i 0
   -- and reads nothing else
   pub reads-only-scope : (c d : List ℕ) (t : ℕ) → Proper c t → Proper d t → ((j : ℕ) → OneOf (r .scope) j → getD c j 0 ≡ getD d j 0)
       → ((i : ℕ) → OneOf (r .scope) i → getD (r .leaves c t .cells) i 0 ≡ getD (r .leaves d t .cells) i 0) × (r .leaves c t .tally ≡ r .leaves d t .tally)
   -- it only removes
   pub only-removes : (c : List ℕ) (t : ℕ) → Proper c t → AllWithin (r .leaves c t .cells) c × Within (r .leaves c t .tally) t
-  -- smaller masks at entry never leave a larger mask
+  -- from narrower masks a run never comes out wider
   pub monotone : (c d : List ℕ) (t u : ℕ) → Proper c t → Proper d u → AllWithin c d → Within t u
       → AllWithin (r .leaves c t .cells) (r .leaves d u .cells) × Within (r .leaves c t .tally) (r .leaves d u .tally)
-  -- no allowed filling within the masks is lost
+  -- an accepted filling that fits before the run fits after it
   pub keeps-allowed : (c : List ℕ) (t : ℕ) (f : List ℕ) (k : ℕ) → Proper c t → Fills (r .scope) f c → In t k → r .allows f k ≡ true
       → Fills (r .scope) f (r .leaves c t .cells) × In (r .leaves c t .tally) k
-  -- where its cells and tally hold one value each, one becomes empty exactly if that filling is not allowed
+  -- a single value everywhere: something is emptied just if that filling is not accepted
   pub decides-single : (c : List ℕ) (f : List ℕ) (k : ℕ) → Proper c (2 ^ k) → Single (r .scope) f c
       → (Emptied (r .scope) (r .leaves c (2 ^ k)) → r .allows f k ≡ false) × (r .allows f k ≡ false → Emptied (r .scope) (r .leaves c (2 ^ k)))
 

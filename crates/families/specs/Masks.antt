@@ -6,7 +6,7 @@ use lib.ListN.{length, getD}
 use Rattle.masks.specs.Bit.{Within}
 use Rattle.masks.specs.Members.{lost}
 
--- masks as they are: 192 cells of 16 bits each and a tally of 64, empty ones included
+-- masks of the sizes that a plan has, whether or not they are empty
 pub record Proper (cells : List ℕ) (tally : ℕ) : Type 0 where
   pub size : length cells ≡ 192
   pub narrow : (i : ℕ) → getD cells i 0 < 2 ^ 16

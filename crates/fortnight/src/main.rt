@@ -1,7 +1,6 @@
 // A crew's fortnight. Standard input has a line for each day: its name, and the letters of the duties
 // still open there (F free, E early, L late, N night, S standby). For each of a few patterns the
-// program prints the least and the greatest number that the fortnight can still have, and which
-// numbers can be reached at all.
+// program prints how few and how many of it there can still be, and which numbers can be reached.
 use automata::Among;
 use automata::AmongAutomaton;
 use automata::CounterAutomaton;

@@ -38,7 +38,7 @@ fn told(number: u8, layer: Layer, place: usize) -> Report
 // What is wrong with something that a draft is made of: an automaton, a row of cells, a rule.
 #[derive(Clone, Copy, PartialEq, Eq, Debug)]
 pub enum PostFault {
-    // A word, a table or a row has a wrong length: the first index that is missing or too many.
+    // A word, a table or a row is too short or too long: the first index that should be there and is not, or the other way round.
     Length { place: usize },
     // A table's number of states is not 1 to 16.
     States,
@@ -50,7 +50,7 @@ pub enum PostFault {
     Range,
     // A cell's mask has no duty.
     EmptyMask,
-    // A word's duty or a class is above 15: its index.
+    // A word has a duty, or a map a class, above 15: its index.
     Duty { place: usize },
     // A cell stands twice in a row: the first index whose cell stood before.
     Repeated { place: usize },

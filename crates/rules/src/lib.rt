@@ -19,7 +19,7 @@ use refusals::PostErrorFromFault;
 use refusals::PostFault;
 use std::alloc::Global;
 
-// When the total of a rule's cells meets a count: when it is at most, at least or equal to it.
+// How a row's total has to stand to a count in order to meet it.
 #[derive(Clone, Copy, PartialEq, Eq, Debug)]
 pub enum Sense {
     AtMost,

@@ -24,7 +24,7 @@ put (x ∷ row) f cells = set (put row (λ i. f (suc i)) cells) x (f 0)
 abbrev pub kept : Automaton → Sense → ℕ → List ℕ → ℕ → ℕ
 kept a sense tally masks i = sieve 16 (getD masks i 0) (duty-stays a masks sense tally i)
 
--- All duties and counts are judged by the masks at entry and removed together.
+-- What one run leaves: every place and the tally are sieved by the same masks, those that the run found.
 abbrev pub leaves : Automaton → Sense → List ℕ → List ℕ → ℕ → Left
 leaves a sense row cells tally = record {
   cells = put row (kept a sense tally (along row cells)) cells;

@@ -3,10 +3,9 @@
 // `run` makes the sweeps that the rule's sense needs, in a lent workspace whose old contents do not
 // matter, judges every duty and every count by the masks at entry, and then removes them together.
 //
-// Proved: at most and at least, a duty goes exactly when no sequence through it meets an open count,
-// and a count goes exactly when no sequence meets it; exactly, a duty goes exactly when the interval
-// of no state contains an open count, and a count when it lies between the least and the greatest
-// total of no end state. The answer is the number of values that went.
+// Proved: under at most and at least, what stays is just what some sequence uses to meet an open
+// count; under exactly, a duty stays just if an open count is in the interval of some state, and a
+// count if it is in that of some end state. The answer is the number of values that went.
 ghost use mathlib.Core.Path.{_≡_};
 ghost use mathlib.Core.Bool.{false, cond};
 ghost use Prim.Native.Nat.{ℕ, _+_, _-_, _*_, _^_, _<_, _≤_, min};

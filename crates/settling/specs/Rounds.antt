@@ -24,7 +24,7 @@ pub data Place : Type 0 where
   cell : ℕ → Place
   tally : Place
 
--- the mask that a failure names: the lowest empty cell, else the rule's tally
+-- the mask that a failure names: the first cell with nothing left, or the tally of the rule that ran if every cell has something
 pub data Names (s : Masks) (r : ℕ) : Place → Type 0 where
   lowest-cell : (i : ℕ) → i < 192 → getD (s .cells) i 0 ≡ 0 → ((j : ℕ) → j < i → 0 < getD (s .cells) j 0) → Names s r (cell i)
   own-tally : ((j : ℕ) → j < 192 → 0 < getD (s .cells) j 0) → getD (s .tallies) r 0 ≡ 0 → Names s r tally

@@ -59,7 +59,7 @@ fn empty_cell(cells: &[u16; 192]) -> Option<usize>
     None
 }
 
-// The lowest empty cell, else the rule's tally where that is empty.
+// The first cell with nothing left; where every cell has something, the rule's tally if that has not.
 fn empty_spot(cells: &[u16; 192], tallies: &[u64; 72], rule: usize) -> Option<Spot>
     requires { ⌜ rule < 72 ⌝ }
     ensures { λ o. ⌜ BySome o (Full (masks (now (cells .entry)) (now (tallies .entry))) rule) (λ p. Names (masks (now (cells .entry)) (now (tallies .entry))) rule (place-of p)) ⌝ }

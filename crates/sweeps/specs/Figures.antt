@@ -1,4 +1,4 @@
--- The figures of a row: the least total, the greatest total and the set of the totals 0 to 63 of all its sequences.
+-- The figures of a row: the smallest and the largest total of its sequences, and which totals below 64 they have.
 use mathlib.Core.Path.{_≡_}
 use mathlib.Core.Bool.{cond}
 use mathlib.Core.Logic.{_↔_}

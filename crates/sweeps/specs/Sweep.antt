@@ -8,11 +8,11 @@ use Rattle.measures.specs.Measuring.{Measuring}
 use Rattle.sweeps.specs.Sequences.{sequences, leading}
 use Rattle.sweeps.specs.Joining.{over, code}
 
--- forward at place i and state q: all sequences from the first i masks that lead from state 0 to q, joined
+-- forward at place i and state q: the sequences over the i masks before the place which end in q, joined
 abbrev pub forward-at : Measuring → Automaton → List ℕ → ℕ → ℕ → ℕ
 forward-at m a masks i q = over m (code m a 0) (leading a q (sequences (take i masks)))
 
--- backward at place i and state q: all sequences from q through the masks from i on, joined
+-- backward at place i and state q: the sequences over the other masks, read from q, joined
 abbrev pub backward-at : Measuring → Automaton → List ℕ → ℕ → ℕ → ℕ
 backward-at m a masks i q = over m (code m a q) (sequences (drop i masks))
 

@@ -2,12 +2,13 @@
 // of all the sequences that lead there (forward) or go on from there (backward).
 //
 // `forward` and `backward` are one text each, for every measure and every automaton, and write into
-// codes that the caller lends: code 16 * place + state. They visit open duties and reached states
-// only, so a sweep costs at most places * states * open duties steps. `row_figures` sums a row up.
+// codes that the caller lends: code 16 * place + state. They visit open duties only, and forward
+// only reached states, so a sweep costs at most places * states * open duties steps. `row_figures`
+// sums a row up.
 //
 // Proved: each code is the joining over the explicit list of those sequences, whatever the lent
-// codes held before; the figures are the least and the greatest total and the set of totals of all
-// sequences; short codes are refused and left as they were.
+// codes held before; the figures are the smallest and the largest total of any sequence, and all
+// totals below 64; short codes are refused and left as they were.
 ghost use mathlib.Core.Path.{_≡_};
 ghost use Prim.Native.Nat.{ℕ, _+_, _*_, _<_, _≤_};
 ghost use lib.ListN.{length, getD};
@@ -78,7 +79,7 @@ fn store(codes: &mut [u64], place: usize, row: &[u64; 16])
     }
 }
 
-// Sweeps forward: code 16 * i + q is the measure of all sequences from the first i masks that lead from state 0 to q.
+// Sweeps forward: code 16 * i + q measures the sequences over the i masks before a place that bring the automaton to state q.
 pub fn forward<M: Measure, C: CounterAutomaton>(
     automaton: &C,
     masks: &[u16],

@@ -10,7 +10,7 @@ use Rattle.automata.specs.Reading.{end, total}
 abbrev pub Ends : List ℕ → List ℕ → Type 0
 Ends p text = (front : List ℕ) × (text ≡ front ++ p)
 
--- j is the length of the longest beginning of the word, short of the whole, that ends what was read
+-- j is the length of the longest proper prefix of the word that is a suffix of the text
 pub record Longest (word text : List ℕ) (j : ℕ) : Type 0 where
   pub short : j < length word
   pub ends : Ends (take j word) text
@@ -22,8 +22,8 @@ pub data Read (word : List ℕ) : List ℕ → List ℕ → ℕ → Type 0 where
   occurs : {ds s : List ℕ} {n : ℕ} (d : ℕ) → d < 16 → Read word ds s n → Ends word (s ++ (d ∷ [])) → Read word (ds ++ (d ∷ [])) [] (suc n)
   goes-on : {ds s : List ℕ} {n : ℕ} (d : ℕ) → d < 16 → Read word ds s n → (Ends word (s ++ (d ∷ [])) → ⊥) → Read word (ds ++ (d ∷ [])) (s ++ (d ∷ [])) n
 
--- The automaton counts the word: whatever duties are read have such an account, the state is the length of the longest beginning that ends
--- what was read since the last occurrence, and the total is the number of occurrences.
+-- The automaton counts the word: any duties that are read can be accounted for so, the state is the longest proper prefix that the part after the
+-- latest occurrence ends in, and the total is the number of occurrences.
 pub record Counts (word : List ℕ) (a : Automaton) : Type 0 where
   pub states : a .states ≡ length word
   pub accounted : (ds : List ℕ) → ((k : ℕ) → k < length ds → getD ds k 0 < 16) → (s : List ℕ) × (n : ℕ) × Read word ds s n

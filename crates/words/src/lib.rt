@@ -3,8 +3,8 @@
 // `Word::new` searches out the step of each state and duty once; a step is then one comparison and
 // one look-up. Occurrences do not overlap: after one, reading resumes at state 0.
 //
-// Proved: the state is always the length of the longest beginning of the word, short of the whole,
-// that ends what was read since the last occurrence, and the total is the number of occurrences.
+// Proved: the state always is the length of the longest proper prefix of the word that is a suffix of
+// what came after the latest occurrence, and the total is the number of occurrences.
 ghost use mathlib.Core.Path.{_≡_};
 ghost use Prim.Native.Nat.{ℕ, _+_, _*_, _-_, _<_, _≤_};
 ghost use lib.ListN.{length, getD, take};
@@ -65,7 +65,7 @@ fn ends(text: &[u8], p: &[u8]) -> bool
     text.ends_with(p)
 }
 
-// The length of the longest beginning of the word, short of the whole, that ends the text.
+// The length of the longest proper prefix of the word that is a suffix of the text.
 fn longest(word: &[u8], text: &[u8]) -> usize
     requires { ⌜ 1 ≤ length (now word) ⌝ }
     ensures { λ r. ⌜ r ≡ longest-of (now (word .entry)) (now (text .entry)) (length (now (word .entry)) - 1) ⌝ }

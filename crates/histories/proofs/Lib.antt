@@ -1,0 +1,14 @@
+pub mod Narrowing
+pub mod Refusals
+pub mod Steps
+pub mod Logs
+pub mod Starting
+pub mod Turns
+pub mod Runs
+pub mod BareRuns
+pub mod Histories
+pub mod Singles
+pub mod Lost
+pub mod Places
+pub mod Chosen
+pub mod Exact

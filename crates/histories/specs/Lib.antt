@@ -1,0 +1,5 @@
+pub mod Decisions
+pub mod Calls
+pub mod Log
+pub mod Plans
+pub mod Law

@@ -1,0 +1,6 @@
+pub mod Refusing
+pub mod Asking
+pub mod Trying
+pub mod Stacks
+pub mod Ranges
+pub mod Starting
