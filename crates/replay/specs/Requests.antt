@@ -2,7 +2,7 @@
 use Prim.Native.Nat.{ℕ, min}
 use Rattle.histories.specs.Decisions.{on-cell, on-tally}
 use Rattle.histories.specs.Calls as law
-use Rattle.histories.specs.Calls.{try, mark, back, ask, of-cell, of-tally, of-figures, done, failed, level, holds, figures, refused}
+use Rattle.histories.specs.Calls.{try, mark, back, ask, of-cell, of-tally, of-figures, level, holds, figures, refused}
 use Rattle.std.specs.declared.result.Result.the-variants.{Ok}
 use Rattle.planning.specs.Views.{tried}
 use Rattle.replay.specs.declared.Request.{Request}

@@ -124,7 +124,7 @@ pub fn make<F: Family>(plan: &mut Plan<F>, call: Call, workspace: &mut [u64]) ->
 }
 
 // Starts a plan and performs the calls in order, until the list or the room for answers is used up.
-// Answers the plan, how the start went, and how many calls were made.
+// Answers the plan, how the start went, and the number of calls performed.
 pub fn replay<F: Family>(
     draft: Draft,
     family: F,

@@ -1,10 +1,10 @@
-use mathlib.Core.Path.{_≡_, refl, sym, ap, _∙_, subst}
-use mathlib.Core.List.{List, map}
-use Prim.Native.Nat.{ℕ, _^_, _+_, _<_, _≤_}
+use mathlib.Core.Path.{_≡_, refl, ap, _∙_, subst}
+use mathlib.Core.List.{map}
+use Prim.Native.Nat.{ℕ, _^_, _<_}
 use native.Mathlib.Omega.{arith}
 use lib.ListN.{length, getD, take}
 use borrow.Author.Needs.{needs}
-use Rattle.families.specs.Meaning.{Meaning, workspace-needed}
+use Rattle.families.specs.Meaning.{Meaning}
 use Rattle.histories.specs.Law.{DraftCells}
 use Rattle.histories.specs.Plans.{Called, Ran}
 use Rattle.histories.proofs.Histories.{history-of-run}
