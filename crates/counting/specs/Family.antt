@@ -1,10 +1,14 @@
 -- The counting family: one automaton, and a list of rules over it.
+use mathlib.Core.Path.{_≡_}
 use mathlib.Core.Bool.{false}
-use mathlib.Core.List.{List, [], _∷_, map}
-use Prim.Native.Nat.{ℕ}
+use mathlib.Core.List.{List, [], _∷_, _++_, map}
+use Prim.Native.Nat.{_<_, _≤_}
 use lib.ListN.{length, getD}
 use Rattle.std.specs.Of.Vec.{vec-items}
 use Rattle.std.specs.declared.option.Option.the-variants.{None}
+use Rattle.refusals.specs.declared.PostError.{PostError}
+use Rattle.refusals.specs.declared.PostFault.the-variants.{FamilyFull}
+use Rattle.refusals.specs.Posting.{Refusing}
 use Rattle.automata.specs.Automaton.{Automaton}
 use Rattle.families.specs.Meaning as families
 use Rattle.families.specs.Meaning.{Meaning}
@@ -21,3 +25,11 @@ no-rule = record { scope = []; start = 1; allows = λ f k. false; leaves = λ c 
 
 abbrev pub family-of : Automaton → List Rule → Meaning
 family-of a rules = record { rules = length rules; rule = λ r. getD (map (rule-of a) rules) r no-rule }
+
+-- the rule is there, behind the others
+abbrev pub PostedTo : Rule → List Rule → List Rule → Type 0
+PostedTo rule old new = (length old < 24) × (new ≡ old ++ (rule ∷ []))
+
+-- the rules are as they were: 24 were there, or there was no memory
+abbrev pub NotPosted : List Rule → List Rule → PostError → Type 0
+NotPosted old new e = (new ≡ old) × Refusing (λ f. (f ≡ FamilyFull) × (24 ≤ length old)) (length old < 24) e

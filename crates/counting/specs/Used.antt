@@ -10,7 +10,7 @@ use Rattle.masks.specs.Bit.{In}
 use Rattle.automata.specs.Automaton.{Automaton}
 use Rattle.automata.specs.Reading.{total}
 use Rattle.families.specs.Masks.{Proper}
-use Rattle.families.specs.Meaning.{Rule}
+use Rattle.families.specs.Meaning.{Rule, Meaning}
 use Rattle.rules.specs.declared.Sense.{Sense}
 use Rattle.rules.specs.declared.Sense.the-variants.{AtMost, AtLeast, Exactly}
 use Rattle.rules.specs.Rows.{Different, GoodRow}
@@ -32,6 +32,10 @@ pub record KeepsOnlyUsed (r : Rule) : Type 0 where
   pub duty-used : (c : List ℕ) (t j d : ℕ) → Proper c t → j < length (r .scope) → In (getD (r .leaves c t .cells) (getD (r .scope) j 0) 0) d
       → (ds : List ℕ) × (k : ℕ) × From (along (r .scope) c) ds × (getD ds j 0 ≡ d) × (k < 64) × In t k × Meets sense (total automaton 0 ds) k
   pub count-used : (c : List ℕ) (t k : ℕ) → Proper c t → In (r .leaves c t .tally) k → (ds : List ℕ) × From (along (r .scope) c) ds × Meets sense (total automaton 0 ds) k
+
+-- every rule of a family is of that kind
+abbrev pub AllKeep : Meaning → Type 0
+AllKeep m = (r : ℕ) → r < m .rules → KeepsOnlyUsed (m .rule r)
 
 not-one-way : (Exactly ≡ AtMost) ⊎ (Exactly ≡ AtLeast) → ⊥
 not-one-way (inl e) = let z : _≡_ {A = ℕ} 0 1 = cc in omega arith

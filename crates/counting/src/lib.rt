@@ -8,20 +8,18 @@
 // in pairs.
 ghost use mathlib.Core.Path.{_≡_};
 ghost use mathlib.Core.Bool.{true};
-ghost use mathlib.Core.List.{[], _∷_, _++_};
+ghost use mathlib.Core.List.{[]};
 ghost use Prim.Native.Nat.{ℕ, _+_, _<_, _≤_, min};
 ghost use lib.ListN.{length};
 ghost use Rattle.std.specs.Of.Vec.{vec-items};
 ghost use Rattle.std.specs.declared.option.Option.the-variants.{None};
 ghost use Rattle.std.specs.Results.{Cases};
-ghost use Rattle.refusals.specs.declared.PostFault.the-variants.{FamilyFull};
-ghost use Rattle.refusals.specs.Posting.{Refusing};
 ghost use Rattle.families.specs.Meaning.{workspace-needed, most-rules, pair as paired};
 ghost use Rattle.sweeps.specs.Figures.{figures-of};
 ghost use Rattle.runs.specs.Run.{along};
-ghost use Rattle.counting.specs.Family.{family-of};
+ghost use Rattle.counting.specs.Family.{family-of, PostedTo, NotPosted};
 ghost use Rattle.counting.specs.FamilyLaws.{family-lawful};
-ghost use Rattle.counting.specs.Used.{KeepsOnlyUsed};
+ghost use Rattle.counting.specs.Used.{KeepsOnlyUsed, AllKeep};
 use automata::CounterAutomaton;
 use families::Family;
 use families::Pair;
@@ -57,7 +55,7 @@ impl<C> Counting<C> {
     // Posts one rule more, the last.
     pub fn post(&mut self, rule: Rule) -> Result<(), PostError>
         ensures automaton { λ _. ⌜ now (self .exit) .automaton ≡ now (self .entry) .automaton ⌝ }
-        ensures posted { λ r. ⌜ Cases r (λ _. (length (vec-items (now (self .entry) .rules)) < 24) × (vec-items (now (self .exit) .rules) ≡ vec-items (now (self .entry) .rules) ++ (rule ∷ []))) (λ e. (vec-items (now (self .exit) .rules) ≡ vec-items (now (self .entry) .rules)) × Refusing (λ f. (f ≡ FamilyFull) × (24 ≤ length (vec-items (now (self .entry) .rules)))) (length (vec-items (now (self .entry) .rules)) < 24) e) ⌝ }
+        ensures posted { λ r. ⌜ Cases r (λ _. PostedTo rule (vec-items (now (self .entry) .rules)) (vec-items (now (self .exit) .rules))) (NotPosted (vec-items (now (self .entry) .rules)) (vec-items (now (self .exit) .rules))) ⌝ }
     {
         if self.rules.len() >= MOST {
             return Err(PostError::Fault(PostFault::FamilyFull));
@@ -145,7 +143,7 @@ pub impl<C: CounterAutomaton> Family for Counting<C> as CountingFamily {
 // How many rules a pair has. Where every rule of both families keeps only what a sequence uses, so does each of these.
 pub fn paired_rules<F: Family, G: Family>(pair: &Pair<F, G>) -> usize
     ensures count { λ n. ⌜ n ≡ min most-rules (F·Family .meaning (now (pair .entry) .first) .rules + G·Family .meaning (now (pair .entry) .second) .rules) ⌝ }
-    ensures keep_only_used { λ n. ⌜ (((r : ℕ) → r < F·Family .meaning (now (pair .entry) .first) .rules → KeepsOnlyUsed (F·Family .meaning (now (pair .entry) .first) .rule r)) → ((r : ℕ) → r < G·Family .meaning (now (pair .entry) .second) .rules → KeepsOnlyUsed (G·Family .meaning (now (pair .entry) .second) .rule r)) → (r : ℕ) → r < n → KeepsOnlyUsed (paired (F·Family .meaning (now (pair .entry) .first)) (G·Family .meaning (now (pair .entry) .second)) .rule r)) ⌝ }
+    ensures keep_only_used { λ _. ⌜ (AllKeep (F·Family .meaning (now (pair .entry) .first)) → AllKeep (G·Family .meaning (now (pair .entry) .second)) → AllKeep (paired (F·Family .meaning (now (pair .entry) .first)) (G·Family .meaning (now (pair .entry) .second)))) ⌝ }
 {
     pair.rule_count()
 }

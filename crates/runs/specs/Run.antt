@@ -1,11 +1,18 @@
 -- A counting rule by its meaning: what it allows, what one run leaves, its figures.
+use mathlib.Core.Path.{_≡_}
 use mathlib.Core.List.{List, [], _∷_, map}
-use Prim.Native.Nat.{ℕ, suc}
-use lib.ListN.{getD, set}
+use Prim.Native.Nat.{ℕ, suc, _+_, _<_, _≤_}
+use lib.ListN.{length, getD, set}
+use Rattle.std.specs.Of.Vec.{vec-items}
+use Rattle.masks.specs.Members.{lost}
+use Rattle.refusals.specs.declared.PlanFault.{PlanFault}
+use Rattle.refusals.specs.declared.PlanFault.the-variants.{Workspace}
 use Rattle.automata.specs.Automaton.{Automaton}
 use Rattle.automata.specs.Reading.{total}
 use Rattle.sweeps.specs.Figures.{figures-of}
-use Rattle.families.specs.Meaning.{Left, Rule}
+use Rattle.families.specs.Masks.{values-lost}
+use Rattle.families.specs.Meaning.{Left, Rule, workspace-needed}
+use Rattle.rules.specs.declared.Rule as written
 use Rattle.rules.specs.declared.Sense.{Sense}
 use Rattle.rules.specs.Senses.{meets}
 use Rattle.runs.specs.Choosing.{sieve}
@@ -39,3 +46,15 @@ counting-rule a sense row start = record {
   leaves = leaves a sense row;
   figures = λ cells. figures-of a (along row cells);
 }
+
+-- On a workspace w, the run of a rule takes the cells c to d and the tally t to u, and answers n.
+abbrev pub RuleRan : Automaton → written.Rule → List ℕ → List ℕ → List ℕ → ℕ → ℕ → ℕ → Type 0
+RuleRan a rule w c d t u n =
+    (workspace-needed ≤ length w)
+    × (d ≡ leaves a (rule .sense) (vec-items (rule .row .cells)) c t .cells)
+    × (u ≡ leaves a (rule .sense) (vec-items (rule .row .cells)) c t .tally)
+    × (n ≡ values-lost c d + length (lost 64 t u))
+
+-- a workspace that is too short: refused, with cells, tally and workspace as they were
+abbrev pub NotRun : List ℕ → List ℕ → List ℕ → List ℕ → ℕ → ℕ → PlanFault → Type 0
+NotRun w v c d t u e = (e ≡ Workspace) × (length w < workspace-needed) × (d ≡ c) × (u ≡ t) × (v ≡ w)

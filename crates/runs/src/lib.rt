@@ -16,12 +16,10 @@ ghost use Rattle.std.specs.Orderings.{Decides};
 ghost use Rattle.std.specs.Results.{Cases};
 ghost use Rattle.masks.specs.Bit.{In, has};
 ghost use Rattle.masks.specs.Members.{lost};
-ghost use Rattle.refusals.specs.declared.PlanFault.the-variants.{Workspace};
 ghost use Rattle.automata.specs.Automaton.{Automaton};
 ghost use Rattle.families.specs.Masks.{values-lost};
-ghost use Rattle.families.specs.Meaning.{workspace-needed};
 ghost use Rattle.runs.specs.Codes.{BothWays, Ready, MetThrough, MetAtEnd};
-ghost use Rattle.runs.specs.Run.{along, put, kept, leaves};
+ghost use Rattle.runs.specs.Run.{along, put, kept, leaves, RuleRan, NotRun};
 ghost use Rattle.runs.specs.Stays.{DutyStays, CountStays};
 use automata::CounterAutomaton;
 use masks::MembersIterator;
@@ -86,9 +84,10 @@ fn overlap(counts: u64, tally: u64) -> bool
     counts & tally != 0
 }
 
-// The masks in the cells of a row, in the row's order.
+// The masks in the cells of a row, in the row's order, and then zeros.
 pub fn gather(row: &Row, cells: &[u16; 192]) -> [u16; 64]
-    ensures { λ r. ⌜ take (length (vec-items (now (row .entry) .cells))) r ≡ along (vec-items (now (row .entry) .cells)) (now (cells .entry)) ⌝ }
+    ensures zeros_behind { λ r. ⌜ ((i : ℕ) → length (vec-items (now (row .entry) .cells)) ≤ i → getD r i 0 ≡ 0) ⌝ }
+    ensures in_front { λ r. ⌜ take (length (vec-items (now (row .entry) .cells))) r ≡ along (vec-items (now (row .entry) .cells)) (now (cells .entry)) ⌝ }
 {
     let mut masks = [0; 64];
     for (i, cell) in row.cells().iter().enumerate() {
@@ -314,7 +313,7 @@ pub fn run<C: CounterAutomaton>(
     tally: &mut u64,
     workspace: &mut [u64],
 ) -> Result<u32, PlanFault>
-    ensures { λ r. ⌜ Cases r (λ n. (workspace-needed ≤ length (now (workspace .entry))) × (now (cells .exit) ≡ leaves (C·CounterAutomaton .meaning (now (automaton .entry))) (now (rule .entry) .sense) (vec-items (now (rule .entry) .row .cells)) (now (cells .entry)) (now (tally .entry)) .cells) × (now (tally .exit) ≡ leaves (C·CounterAutomaton .meaning (now (automaton .entry))) (now (rule .entry) .sense) (vec-items (now (rule .entry) .row .cells)) (now (cells .entry)) (now (tally .entry)) .tally) × (n ≡ values-lost (now (cells .entry)) (now (cells .exit)) + length (lost 64 (now (tally .entry)) (now (tally .exit))))) (λ e. (e ≡ Workspace) × (length (now (workspace .entry)) < workspace-needed) × (now (cells .exit) ≡ now (cells .entry)) × (now (tally .exit) ≡ now (tally .entry)) × (now (workspace .exit) ≡ now (workspace .entry))) ⌝ }
+    ensures { λ r. ⌜ Cases r (RuleRan (C·CounterAutomaton .meaning (now (automaton .entry))) (now (rule .entry)) (now (workspace .entry)) (now (cells .entry)) (now (cells .exit)) (now (tally .entry)) (now (tally .exit))) (NotRun (now (workspace .entry)) (now (workspace .exit)) (now (cells .entry)) (now (cells .exit)) (now (tally .entry)) (now (tally .exit))) ⌝ }
 {
     if workspace.len() < 4160 {
         return Err(PlanFault::Workspace);

@@ -1,7 +1,11 @@
 -- What a settling answers.
 use mathlib.Core.Path.{_≡_}
-use Prim.Native.Nat.{ℕ}
-use Rattle.families.specs.Meaning.{Meaning}
+use mathlib.Core.List.{List}
+use Prim.Native.Nat.{ℕ, _<_}
+use lib.ListN.{length}
+use Rattle.refusals.specs.declared.PlanFault.{PlanFault}
+use Rattle.refusals.specs.declared.PlanFault.the-variants.{Workspace}
+use Rattle.families.specs.Meaning.{Meaning, workspace-needed}
 use Rattle.settling.specs.declared.Failure.{Failure}
 use Rattle.settling.specs.declared.Settled.{Settled}
 use Rattle.settling.specs.declared.Settled.the-variants.{Well, Failed}
@@ -29,3 +33,7 @@ work-of (Failed f) = f .work
 pub record Told (m : Meaning) (s t : Masks) (x : Settled) : Type 0 where
   pub rounds : Settles m t (end-of x) 0 0 s (work-of x .runs) (work-of x .removed)
   pub outcome : AllOpen m s → Outcome m s t (end-of x) (work-of x .runs) (work-of x .removed)
+
+-- a workspace w that is too short: refused, with cells, tallies and workspace as they were
+abbrev pub NotSettled : List ℕ → List ℕ → List ℕ → List ℕ → List ℕ → List ℕ → PlanFault → Type 0
+NotSettled c d t u w v e = (e ≡ Workspace) × (length w < workspace-needed) × (d ≡ c) × (u ≡ t) × (v ≡ w)

@@ -11,11 +11,10 @@ ghost use Prim.Native.Nat.{ℕ, _<_, _≤_};
 ghost use lib.ListN.{length, getD};
 ghost use Rattle.std.specs.Options.{Cases as BySome};
 ghost use Rattle.std.specs.Results.{Cases};
-ghost use Rattle.refusals.specs.declared.PlanFault.the-variants.{Workspace};
 ghost use Rattle.families.specs.Meaning.{workspace-needed};
 ghost use Rattle.settling.specs.Masks.{masks};
 ghost use Rattle.settling.specs.Rounds.{Names, Full, run, taken};
-ghost use Rattle.settling.specs.Told.{Told, place-of};
+ghost use Rattle.settling.specs.Told.{Told, NotSettled, place-of};
 use families::Family;
 use refusals::PlanFault;
 
@@ -101,7 +100,7 @@ pub fn settle<F: Family>(
     tallies: &mut [u64; 72],
     workspace: &mut [u64],
 ) -> Result<Settled, PlanFault>
-    ensures { λ r. ⌜ Cases r (λ x. (workspace-needed ≤ length (now (workspace .entry))) × Told (F·Family .meaning (now (family .entry))) (masks (now (cells .entry)) (now (tallies .entry))) (masks (now (cells .exit)) (now (tallies .exit))) x) (λ e. (e ≡ Workspace) × (length (now (workspace .entry)) < workspace-needed) × (now (cells .exit) ≡ now (cells .entry)) × (now (tallies .exit) ≡ now (tallies .entry)) × (now (workspace .exit) ≡ now (workspace .entry))) ⌝ }
+    ensures { λ r. ⌜ Cases r (λ x. (workspace-needed ≤ length (now (workspace .entry))) × Told (F·Family .meaning (now (family .entry))) (masks (now (cells .entry)) (now (tallies .entry))) (masks (now (cells .exit)) (now (tallies .exit))) x) (NotSettled (now (cells .entry)) (now (cells .exit)) (now (tallies .entry)) (now (tallies .exit)) (now (workspace .entry)) (now (workspace .exit))) ⌝ }
 {
     if workspace.len() < 4160 {
         return Err(PlanFault::Workspace);

@@ -4,6 +4,7 @@ use mathlib.Core.Bool.{cond}
 use mathlib.Core.Logic.{_↔_}
 use mathlib.Core.List.{List}
 use Prim.Native.Nat.{ℕ, _-_, _<_, _≤_}
+use lib.ListN.{length}
 use lib.Dec.{eqb}
 use Rattle.std.specs.declared.option.Option.{Option}
 use Rattle.std.specs.declared.option.Option.the-variants.{Some, None}
@@ -14,7 +15,7 @@ use Rattle.measures.specs.Kinds.{least, greatest, totals}
 use Rattle.measures.specs.Measuring.{Measuring}
 use Rattle.measures.specs.declared.Figures.{Figures}
 use Rattle.sweeps.specs.Sequences.{From}
-use Rattle.sweeps.specs.Sweep.{backward-at}
+use Rattle.sweeps.specs.Sweep.{backward-at, needed}
 
 -- some sequence has the total t
 abbrev pub Reached : Automaton → List ℕ → ℕ → Type 0
@@ -42,3 +43,7 @@ figures-of a masks =
 abbrev pub Shown : Automaton → List ℕ → Option Figures → Type 0
 Shown a masks None = (t : ℕ) → Reached a masks t → ⊥
 Shown a masks (Some f) = FiguresOf a masks f
+
+-- what is told on enough codes
+abbrev pub FiguresTold : Automaton → List ℕ → List ℕ → Option Figures → Type 0
+FiguresTold a masks codes o = (needed masks ≤ length codes) × (o ≡ figures-of a masks) × Shown a masks o

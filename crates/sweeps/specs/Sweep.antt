@@ -3,6 +3,8 @@ use mathlib.Core.Path.{_≡_}
 use mathlib.Core.List.{List}
 use Prim.Native.Nat.{ℕ, _+_, _*_, _<_, _≤_}
 use lib.ListN.{length, take, drop, getD}
+use Rattle.refusals.specs.declared.PlanFault.{PlanFault}
+use Rattle.refusals.specs.declared.PlanFault.the-variants.{Workspace}
 use Rattle.automata.specs.Automaton.{Automaton}
 use Rattle.measures.specs.Measuring.{Measuring}
 use Rattle.sweeps.specs.Sequences.{sequences, leading}
@@ -26,3 +28,17 @@ pub record Swept (m : Measuring) (a : Automaton) (masks : List ℕ) (at : ℕ �
   pub each : (i q : ℕ) → i ≤ length masks → q < a .states → getD new (16 * i + q) 0 ≡ at i q
   pub absent : (i q : ℕ) → i ≤ length masks → a .states ≤ q → q < 16 → getD new (16 * i + q) 0 ≡ m .none
   pub beyond : (k : ℕ) → needed masks ≤ k → getD new k 0 ≡ getD old k 0
+
+abbrev pub SweptForward : Measuring → Automaton → List ℕ → List ℕ → List ℕ → Type 0
+SweptForward m a masks old new = Swept m a masks (forward-at m a masks) old new
+
+abbrev pub SweptBackward : Measuring → Automaton → List ℕ → List ℕ → List ℕ → Type 0
+SweptBackward m a masks old new = Swept m a masks (backward-at m a masks) old new
+
+-- codes that are too short for a row: refused, and left as they were
+abbrev pub TooShort : List ℕ → List ℕ → List ℕ → PlanFault → Type 0
+TooShort masks old new e = (e ≡ Workspace) × (length old < needed masks) × (new ≡ old)
+
+-- codes beyond those that a row needs are left as they were
+abbrev pub BeyondKept : List ℕ → List ℕ → List ℕ → Type 0
+BeyondKept masks old new = (k : ℕ) → needed masks ≤ k → getD new k 0 ≡ getD old k 0

@@ -14,10 +14,9 @@ ghost use Prim.Native.Nat.{ℕ, _+_, _*_, _<_, _≤_};
 ghost use lib.ListN.{length, getD};
 ghost use Rattle.std.specs.Orderings.{Decides};
 ghost use Rattle.std.specs.Results.{Cases};
-ghost use Rattle.refusals.specs.declared.PlanFault.the-variants.{Workspace};
-ghost use Rattle.sweeps.specs.Figures.{figures-of, Shown};
+ghost use Rattle.sweeps.specs.Figures.{FiguresTold};
 ghost use Rattle.sweeps.specs.Place.{Neutral, passed, pushed, pulled};
-ghost use Rattle.sweeps.specs.Sweep.{forward-at, backward-at, needed, Swept};
+ghost use Rattle.sweeps.specs.Sweep.{backward-at, needed, SweptForward, SweptBackward, TooShort, BeyondKept};
 use automata::CounterAutomaton;
 use masks::MembersIterator;
 use measures::Figures;
@@ -85,7 +84,7 @@ pub fn forward<M: Measure, C: CounterAutomaton>(
     masks: &[u16],
     codes: &mut [u64],
 ) -> Result<(), PlanFault>
-    ensures { λ r. ⌜ Cases r (λ _. Swept (M·Measure .kind) (C·CounterAutomaton .meaning (now (automaton .entry))) (now (masks .entry)) (forward-at (M·Measure .kind) (C·CounterAutomaton .meaning (now (automaton .entry))) (now (masks .entry))) (now (codes .entry)) (now (codes .exit))) (λ e. (e ≡ Workspace) × (length (now (codes .entry)) < needed (now (masks .entry))) × (now (codes .exit) ≡ now (codes .entry))) ⌝ }
+    ensures { λ r. ⌜ Cases r (λ _. SweptForward (M·Measure .kind) (C·CounterAutomaton .meaning (now (automaton .entry))) (now (masks .entry)) (now (codes .entry)) (now (codes .exit))) (TooShort (now (masks .entry)) (now (codes .entry)) (now (codes .exit))) ⌝ }
 {
     if too_short(masks, codes) {
         return Err(PlanFault::Workspace);
@@ -152,7 +151,7 @@ pub fn backward<M: Measure, C: CounterAutomaton>(
     masks: &[u16],
     codes: &mut [u64],
 ) -> Result<(), PlanFault>
-    ensures { λ r. ⌜ Cases r (λ _. Swept (M·Measure .kind) (C·CounterAutomaton .meaning (now (automaton .entry))) (now (masks .entry)) (backward-at (M·Measure .kind) (C·CounterAutomaton .meaning (now (automaton .entry))) (now (masks .entry))) (now (codes .entry)) (now (codes .exit))) (λ e. (e ≡ Workspace) × (length (now (codes .entry)) < needed (now (masks .entry))) × (now (codes .exit) ≡ now (codes .entry))) ⌝ }
+    ensures { λ r. ⌜ Cases r (λ _. SweptBackward (M·Measure .kind) (C·CounterAutomaton .meaning (now (automaton .entry))) (now (masks .entry)) (now (codes .entry)) (now (codes .exit))) (TooShort (now (masks .entry)) (now (codes .entry)) (now (codes .exit))) ⌝ }
 {
     if too_short(masks, codes) {
         return Err(PlanFault::Workspace);
@@ -172,7 +171,7 @@ fn figure<M: Measure, C: CounterAutomaton>(
     masks: &[u16],
     codes: &mut [u64],
 ) -> Result<u64, PlanFault>
-    ensures { λ r. ⌜ Cases r (λ x. (needed (now (masks .entry)) ≤ length (now (codes .entry))) × (x ≡ backward-at (M·Measure .kind) (C·CounterAutomaton .meaning (now (automaton .entry))) (now (masks .entry)) 0 0) × ((k : ℕ) → needed (now (masks .entry)) ≤ k → getD (now (codes .exit)) k 0 ≡ getD (now (codes .entry)) k 0)) (λ e. (e ≡ Workspace) × (length (now (codes .entry)) < needed (now (masks .entry))) × (now (codes .exit) ≡ now (codes .entry))) ⌝ }
+    ensures { λ r. ⌜ Cases r (λ x. (needed (now (masks .entry)) ≤ length (now (codes .entry))) × (x ≡ backward-at (M·Measure .kind) (C·CounterAutomaton .meaning (now (automaton .entry))) (now (masks .entry)) 0 0) × BeyondKept (now (masks .entry)) (now (codes .entry)) (now (codes .exit))) (TooShort (now (masks .entry)) (now (codes .entry)) (now (codes .exit))) ⌝ }
 {
     backward::<M, C>(automaton, masks, codes)?;
     Ok(codes[0])
@@ -184,8 +183,8 @@ pub fn row_figures<C: CounterAutomaton>(
     masks: &[u16],
     codes: &mut [u64],
 ) -> Result<Option<Figures>, PlanFault>
-    ensures figures { λ r. ⌜ Cases r (λ o. (needed (now (masks .entry)) ≤ length (now (codes .entry))) × (o ≡ figures-of (C·CounterAutomaton .meaning (now (automaton .entry))) (now (masks .entry))) × Shown (C·CounterAutomaton .meaning (now (automaton .entry))) (now (masks .entry)) o) (λ e. (e ≡ Workspace) × (length (now (codes .entry)) < needed (now (masks .entry))) × (now (codes .exit) ≡ now (codes .entry))) ⌝ }
-    ensures beyond { λ _. ⌜ ((k : ℕ) → needed (now (masks .entry)) ≤ k → getD (now (codes .exit)) k 0 ≡ getD (now (codes .entry)) k 0) ⌝ }
+    ensures figures { λ r. ⌜ Cases r (FiguresTold (C·CounterAutomaton .meaning (now (automaton .entry))) (now (masks .entry)) (now (codes .entry))) (TooShort (now (masks .entry)) (now (codes .entry)) (now (codes .exit))) ⌝ }
+    ensures beyond { λ _. ⌜ BeyondKept (now (masks .entry)) (now (codes .entry)) (now (codes .exit)) ⌝ }
 {
     let least = figure::<Least, C>(automaton, masks, codes)?;
     if least == u64::MAX {
