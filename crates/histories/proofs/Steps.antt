@@ -1,6 +1,6 @@
 -- Each call does one thing, and does something.
-use mathlib.Core.Path.{_≡_, refl, ap, ap₂}
-use mathlib.Core.Bool.{Bool}
+use mathlib.Core.Path.{_≡_, refl, ap, ap₂, _∙_}
+use mathlib.Core.Bool.{Bool, true, false}
 use mathlib.Core.List.{List, [], _∷_}
 use mathlib.Core.Logic.{⊎-elim}
 use Prim.Native.Nat.{ℕ, _+_, _<_}
@@ -18,9 +18,9 @@ use Rattle.settling.proofs.Rounds.{well-or-fails}
 use Rattle.settling.proofs.Determined.{settles-one, settles-exist}
 use Rattle.histories.specs.Decisions.{Decision, narrow, named}
 use Rattle.histories.specs.Calls.{Call, try, mark, back, ask, Answer, done, failed, level, refused, refusal, reply}
-use Rattle.histories.specs.Plans.{View, Free, Step}
+use Rattle.histories.specs.Plans.{View, Free, Step, Ran}
 use Rattle.histories.proofs.Narrowing.{narrow-sized}
-use Rattle.histories.proofs.Refusals.{refused-not-free, refused-one, refused-or-free, back-free}
+use Rattle.histories.proofs.Refusals.{refused-not-free, refused-one, refused-or-free, try-free, mark-free, back-free}
 
 abbrev view : Masks → List Masks → Bool → View
 view now below void = record { now = now; below = below; void = void }
@@ -98,3 +98,20 @@ module _ (m : Meaning) (p : View) where
         (λ (r : (e : PlanFault) × (turned c ≡ Some e)). (refused (r .0), p, Step.refuses c (r .0) (r .1)))
         (λ (h : turned c ≡ None). freed c h)
         (refused-or-free (turned c))
+
+not-both : (b : Bool) → b ≡ true → b ≡ false → ⊥
+not-both b t f = let z : _≡_ {A = ℕ} 0 1 = cc in omega arith
+
+-- no call changes a void plan
+step-void : {m : Meaning} {p : View} {c : Call} {a : Answer} {q : View} → Step m p c a q → p .void ≡ true → q ≡ p
+step-void (Step.refuses c e h) v = refl
+step-void (Step.empties d w h z) v = refl
+step-void {m} {p} (Step.settles d w t n k h z s) v = absurd (not-both (p .void) v (try-free m (p .void) (length (p .below)) d w h .2))
+step-void (Step.breaks d w u r x n k h z s) v = refl
+step-void {m} {p} (Step.marks h) v = absurd (not-both (p .void) v (mark-free m (p .void) (length (p .below)) h .0))
+step-void {m} {p} (Step.backs s ss h e) v = absurd (not-both (p .void) v (back-free m (p .void) (length (p .below)) h .0))
+step-void (Step.tells q w h) v = refl
+
+pub ran-void : {m : Meaning} {p : View} {cs : List Call} {ys : List Answer} {q : View} → Ran m p cs ys q → p .void ≡ true → q ≡ p
+ran-void (Ran.end p) v = refl
+ran-void (Ran.more p q r c cs a ys k rest) v = let e = step-void (k .step) v in ran-void rest (ap (λ (x : View). x .void) e ∙ v) ∙ e

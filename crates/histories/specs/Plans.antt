@@ -47,10 +47,14 @@ pub record Called (m : Meaning) (c : Call) (a : Answer) (p q : View) : Type 0 wh
   pub step : Step m p c a q
   pub log-kept : (start : Masks) (b : Log) → Sized start → Shows m start b p → (e : Log) × Turn m start b c a e × Shows m start e q
 
+-- a void plan
+abbrev pub voided : View
+voided = record { now = nothing; below = []; void = true }
+
 -- What a start on enough workspace does: it settles the start masks; where that fails the plan is void, with nothing open.
 pub data Begins (m : Meaning) (start : Masks) : Answer → View → Type 0 where
   settles : (t : Masks) (n k : ℕ) → Settles m t well 0 0 start n k → Begins m start (done n k) (record { now = t; below = []; void = false })
-  breaks : (u : Masks) (r : ℕ) (x : Place) (n k : ℕ) → Settles m u (fails r x) 0 0 start n k → Begins m start (failed (Some (r, x)) n k) (record { now = nothing; below = []; void = true })
+  breaks : (u : Masks) (r : ℕ) (x : Place) (n k : ℕ) → Settles m u (fails r x) 0 0 start n k → Begins m start (failed (Some (r, x)) n k) voided
 
 -- the contract of a start
 pub record Begun (m : Meaning) (cells : List ℕ) (a : Answer) (p : View) : Type 0 where

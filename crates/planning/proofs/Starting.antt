@@ -10,8 +10,8 @@ use Rattle.families.specs.Laws.{Lawful}
 use Rattle.settling.specs.Masks.{Masks}
 use Rattle.settling.specs.Rounds.{Place, well, fails, Settles}
 use Rattle.histories.specs.Calls.{done, failed}
-use Rattle.histories.specs.Log.{Starts, nothing}
-use Rattle.histories.specs.Plans.{View, Begins, Begun}
+use Rattle.histories.specs.Log.{Starts}
+use Rattle.histories.specs.Plans.{View, voided, Begins, Begun}
 use Rattle.histories.specs.Law.{DraftCells}
 use Rattle.histories.proofs.Starting.{begins-begun}
 
@@ -24,5 +24,5 @@ module _ (m : Meaning) (law : Lawful m) (cells : List ℕ) (draft : DraftCells c
   pub start-settled : Settles m t well 0 0 s n k → v ≡ record { now = t; below = []; void = false } → Begun m cells (done n k) v
   start-settled h e = subst (λ (p : View). Begun m cells (done n k) p) (sym e) (begins-begun m cells law draft s st (Begins.settles t n k h))
 
-  pub start-void : (r : ℕ) (x : Place) → Settles m t (fails r x) 0 0 s n k → v ≡ record { now = nothing; below = []; void = true } → Begun m cells (failed (Some (r, x)) n k) v
+  pub start-void : (r : ℕ) (x : Place) → Settles m t (fails r x) 0 0 s n k → v ≡ voided → Begun m cells (failed (Some (r, x)) n k) v
   start-void r x h e = subst (λ (p : View). Begun m cells (failed (Some (r, x)) n k) p) (sym e) (begins-begun m cells law draft s st (Begins.breaks t r x n k h))

@@ -10,7 +10,7 @@ ghost use lib.ListN.{length, take, getD};
 ghost use Rattle.families.specs.Meaning.{workspace-needed};
 ghost use Rattle.histories.specs.Calls.{Answer as LawAnswer};
 ghost use Rattle.histories.specs.Law.{History};
-ghost use Rattle.histories.specs.Plans.{Called};
+ghost use Rattle.histories.specs.Plans.{Called, Ran, voided};
 ghost use Rattle.planning.specs.declared.plan.Start.the-variants.{Short};
 ghost use Rattle.planning.specs.Views.{view, started, tried, leveled, held, figured};
 ghost use Rattle.replay.specs.Requests.{request-of, call-of, answer-of};
@@ -134,7 +134,8 @@ pub fn replay<F: Family>(
 ) -> (Plan<F>, Start, usize)
     ensures made { λ r. ⌜ r .2 ≡ min (length (now (calls .entry))) (length (now (answers .entry))) ⌝ }
     ensures history { λ r. ⌜ (workspace-needed ≤ length (now (workspace .entry)) → History (F·Family .meaning family) (draft .cells) (started (r .1)) (map (call-of (length (now (workspace .entry)))) (take (r .2) (now (calls .entry)))) (map answer-of (take (r .2) (now (answers .exit)))) (view (r .0))) ⌝ }
-    ensures short { λ r. ⌜ (length (now (workspace .entry)) < workspace-needed → (r .1 ≡ Short) × (now (workspace .exit) ≡ now (workspace .entry))) ⌝ }
+    ensures short { λ r. ⌜ (length (now (workspace .entry)) < workspace-needed → (r .1 ≡ Short) × (view (r .0) ≡ voided) × (now (workspace .exit) ≡ now (workspace .entry))) ⌝ }
+    ensures short_answers { λ r. ⌜ (length (now (workspace .entry)) < workspace-needed → Ran (F·Family .meaning family) voided (map (call-of (length (now (workspace .entry)))) (take (r .2) (now (calls .entry)))) (map answer-of (take (r .2) (now (answers .exit)))) voided) ⌝ }
     ensures beyond { λ r. ⌜ ((k : ℕ) (d : LawAnswer) → r .2 ≤ k → getD (map answer-of (now (answers .exit))) k d ≡ getD (map answer-of (now (answers .entry))) k d) ⌝ }
 {
     let (mut plan, start) = draft.start(family, workspace);

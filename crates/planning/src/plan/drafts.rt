@@ -8,7 +8,7 @@ ghost use Rattle.std.specs.Results.{Cases};
 ghost use Rattle.refusals.specs.declared.PlanFault.the-variants.{Workspace};
 ghost use Rattle.families.specs.Meaning.{workspace-needed};
 ghost use Rattle.histories.specs.Log.{Starts, nothing};
-ghost use Rattle.histories.specs.Plans.{Begun};
+ghost use Rattle.histories.specs.Plans.{voided, Begun};
 ghost use Rattle.planning.specs.declared.plan.Start.the-variants.{Short};
 ghost use Rattle.planning.specs.Drafts.{GoodRange, RangeFault, RangeSet};
 ghost use Rattle.planning.specs.Views.{of, view, started};
@@ -104,7 +104,7 @@ impl Draft {
     pub fn start<F: Family>(self, family: F, workspace: &mut [u64]) -> (Plan<F>, Start)
         ensures family { λ r. ⌜ r .0 .family ≡ family ⌝ }
         ensures begun { λ r. ⌜ (workspace-needed ≤ length (now (workspace .entry)) → Begun (F·Family .meaning family) (self .cells) (started (r .1)) (view (r .0))) ⌝ }
-        ensures short { λ r. ⌜ (length (now (workspace .entry)) < workspace-needed → (r .1 ≡ Short) × (view (r .0) ≡ record { now = nothing; below = []; void = true }) × (now (workspace .exit) ≡ now (workspace .entry))) ⌝ }
+        ensures short { λ r. ⌜ (length (now (workspace .entry)) < workspace-needed → (r .1 ≡ Short) × (view (r .0) ≡ voided) × (now (workspace .exit) ≡ now (workspace .entry))) ⌝ }
     {
         let Draft { cells } = self;
         let mut masks = start_masks(cells, &family);

@@ -6,8 +6,9 @@ use lib.ListN.{length, getD, take}
 use borrow.Author.Needs.{needs}
 use Rattle.families.specs.Meaning.{Meaning}
 use Rattle.histories.specs.Law.{DraftCells}
-use Rattle.histories.specs.Plans.{Called, Ran}
+use Rattle.histories.specs.Plans.{View, Called, Ran, voided}
 use Rattle.histories.proofs.Histories.{history-of-run}
+use Rattle.histories.proofs.Steps.{ran-void}
 use Rattle.planning.specs.Views.{view, started}
 use Rattle.replay.specs.Requests.{call-of, answer-of}
 use Rattle.replay.specs.declared.Call.{Call}
@@ -66,6 +67,7 @@ returns g c =
     subst (λ (y : Meaning). Ran y p (map (call-of w) (take n xs)) (map answer-of (take n ys)) q) (ap m (c .start-plan .ensures .family)) one in
     let three : Ran (m f) p (map (call-of v) (take n xs)) (map answer-of (take n ys)) q =
     subst (λ (k : ℕ). Ran (m f) p (map (call-of k) (take n xs)) (map answer-of (take n ys)) q) (c .start-plan .kept .workspace) two in
+    let stays : p ≡ voided → q ≡ voided = λ e. ran-void three (ap (λ (x : View). x .void) e) ∙ e in
     record {
       made = c .min-number .ensures;
       history = λ h.
@@ -73,6 +75,10 @@ returns g c =
           (p, c .start-plan .ensures .begun h, three);
       short = λ l.
           let s = c .start-plan .ensures .short l in
-          (s .0, c .loop-i .inv .2 (omega (arith, c .start-plan .kept .workspace, l)) ∙ s .2);
+          (s .0, stays (s .1), c .loop-i .inv .2 (omega (arith, c .start-plan .kept .workspace, l)) ∙ s .2);
+      short-answers = λ l.
+          let e = c .start-plan .ensures .short l .1 in
+          subst (λ (x : View). Ran (m f) voided (map (call-of v) (take n xs)) (map answer-of (take n ys)) x) (stays e)
+          (subst (λ (x : View). Ran (m f) x (map (call-of v) (take n xs)) (map answer-of (take n ys)) q) e three);
       beyond = λ k d h. c .loop-i .inv .3 k d (omega (arith, end));
     }

@@ -1,6 +1,5 @@
 use mathlib.Core.Path.{_≡_}
 use mathlib.Core.Bool.{true}
-use mathlib.Core.List.{[]}
 use Prim.Native.Nat.{ℕ, _^_, _<_}
 use native.Mathlib.Omega.{arith}
 use lib.ListN.{length, getD}
@@ -8,7 +7,7 @@ use borrow.Author.Needs.{needs}
 use Rattle.settling.specs.Masks.{masks}
 use Rattle.settling.specs.Rounds.{well, fails, Settles}
 use Rattle.settling.specs.Told.{place-of}
-use Rattle.histories.specs.Log.{nothing}
+use Rattle.histories.specs.Plans.{voided}
 use Rattle.histories.specs.Law.{DraftCells}
 use Rattle.planning.specs.Views.{of, view}
 use Rattle.planning.proofs.Starting.{start-settled, start-void}
@@ -41,7 +40,7 @@ returns-in-Ok-Failed g c =
     let t = masks (c .settle .last .cells) (c .settle .last .tallies) in
     let f = c .in-Ok-Failed .failure in
     let rounds : Settles m t (fails (f .rule) (place-of (f .spot))) 0 0 s (f .work .runs) (f .work .removed) = search needs in
-    let void : view (c .begun-in-Ok-Failed .result) ≡ record { now = nothing; below = []; void = true } = search needs in
+    let void : view (c .begun-in-Ok-Failed .result) ≡ voided = search needs in
     record {
       family = c .begun-in-Ok-Failed .ensures .family;
       begun = λ h.
