@@ -2,12 +2,14 @@
 use mathlib.Core.Path.{_≡_, refl, sym, ap, ap₂, _∙_, subst}
 use mathlib.Core.Bool.{Bool, true, false, cond}
 use mathlib.Core.Logic.{_⊎_, ⊎-elim}
-use mathlib.Core.List.{List}
+use mathlib.Core.List.{List, map}
 use Prim.Native.Nat.{ℕ, _+_, _<_, _≤_}
+use native.Mathlib.Omega.{arith}
 use lib.Dec.{ltb, leb}
 use lib.ListN.{length, getD}
 use Rattle.std.specs.declared.option.Option.{Option}
 use Rattle.std.specs.declared.option.Option.the-variants.{None}
+use Rattle.std.proofs.shelf.Lists.{getD-map, getD-past, length-map}
 use Rattle.std.proofs.shelf.Tests.{lt-ltb, le-ltb, le-leb, lt-leb, cases-lt}
 use Rattle.std.specs.Of.Vec.{vec-items}
 use Rattle.automata.specs.Automaton.{Automaton}
@@ -21,7 +23,7 @@ use Rattle.families.specs.Meaning as families
 use Rattle.families.specs.Meaning.{Meaning, Left, workspace-needed, when-able, ran, figured, start-of}
 use Rattle.rules.specs.declared.Rule.{Rule}
 use Rattle.runs.specs.Run.{along, leaves}
-use Rattle.counting.specs.Family.{family-of, rule-of}
+use Rattle.counting.specs.Family.{family-of, rule-of, one-sided, one-sided-at}
 use Rattle.counting.specs.FamilyLaws.{rule-at}
 
 -- a rule of the family, on enough workspace
@@ -46,6 +48,10 @@ none-lost c t d u p q =
     ap₂ (λ (x : List ℕ) (y : ℕ). values-lost c x + length (lost 64 t y)) p q
     ∙ ap₂ (λ (x y : ℕ). x + y) (values-lost-none c) (ap length (lost-nothing 64 t))
 
+-- past the last rule there is none of a one-sided sense
+pub past-sense : (rules : List Rule) (r : ℕ) → length rules ≤ r → one-sided-at rules r ≡ false
+past-sense rules r h = getD-past (map (λ (x : Rule). one-sided (x .sense)) rules) r false (omega (arith, length-map rules (λ (x : Rule). one-sided (x .sense))))
+
 -- the rule that a look at number r found
 module _ (a : Automaton) (rules found : List Rule) (at : found ≡ rules) (r : ℕ) (x : Rule) (h : r < length found) (e : x ≡ getD found r x) where
   pub found-inside : r < length rules
@@ -53,6 +59,12 @@ module _ (a : Automaton) (rules found : List Rule) (at : found ≡ rules) (r : �
 
   is-rule : family-of a rules .rule r ≡ rule-of a x
   is-rule = rule-at a rules r x found-inside (ap (λ (l : List Rule). getD l r x) (sym at) ∙ sym e)
+
+  pub found-sense : one-sided-at rules r ≡ one-sided (x .sense)
+  found-sense =
+      getD-map (λ (y : Rule). one-sided (y .sense)) rules r x false found-inside
+      ∙ ap (λ (l : List Rule). one-sided (getD l r x .sense)) (sym at)
+      ∙ ap (λ (y : Rule). one-sided (y .sense)) (sym e)
 
   pub found-start : start-of (family-of a rules) r ≡ x .tally
   found-start = ap (λ b. cond b (family-of a rules .rule r .start) 0) (lt-ltb r (length rules) found-inside) ∙ ap (λ (z : families.Rule). z .start) is-rule

@@ -17,7 +17,7 @@ ghost use Rattle.std.specs.Results.{Cases};
 ghost use Rattle.families.specs.Meaning.{workspace-needed, most-rules, pair as paired};
 ghost use Rattle.sweeps.specs.Figures.{figures-of};
 ghost use Rattle.runs.specs.Run.{along};
-ghost use Rattle.counting.specs.Family.{family-of, PostedTo, NotPosted};
+ghost use Rattle.counting.specs.Family.{family-of, one-sided-at, PostedTo, NotPosted};
 ghost use Rattle.counting.specs.FamilyLaws.{family-lawful};
 ghost use Rattle.counting.specs.Used.{KeepsOnlyUsed, AllKeep};
 use automata::CounterAutomaton;
@@ -68,7 +68,8 @@ impl<C> Counting<C> {
     pub fn keeps_only_used(&self, rule: usize) -> bool
     where
         C: CounterAutomaton,
-        ensures { λ r. ⌜ (r ≡ true → KeepsOnlyUsed (family-of (C·CounterAutomaton .meaning (now (self .entry) .automaton)) (vec-items (now (self .entry) .rules)) .rule rule)) ⌝ }
+        ensures tells { λ r. ⌜ r ≡ one-sided-at (vec-items (now (self .entry) .rules)) rule ⌝ }
+        ensures keeps { λ r. ⌜ (r ≡ true → KeepsOnlyUsed (family-of (C·CounterAutomaton .meaning (now (self .entry) .automaton)) (vec-items (now (self .entry) .rules)) .rule rule)) ⌝ }
     {
         match self.rules.get(rule) {
             Some(rule) => match rule.sense() {

@@ -102,19 +102,19 @@ impl<F: Family> Plan<F> {
 
 impl<F: Family> Roster<F> {
     pub fn cell(&self, cell: usize) -> Result<u16, PlanFault>
-        ensures { λ r. ⌜ ((w : ℕ) → Step (F·Family .meaning (now (self .entry) .family)) (read (now (self .entry))) (ask (of-cell cell) w) (held r) (read (now (self .entry)))) ⌝ }
+        ensures { λ r. ⌜ ((w : ℕ) → Called (F·Family .meaning (now (self .entry) .family)) (ask (of-cell cell) w) (held r) (read (now (self .entry))) (read (now (self .entry)))) ⌝ }
     {
         cell_of(&self.masks, cell)
     }
 
     pub fn tally(&self, rule: usize) -> Result<u64, PlanFault>
-        ensures { λ r. ⌜ ((w : ℕ) → Step (F·Family .meaning (now (self .entry) .family)) (read (now (self .entry))) (ask (of-tally rule) w) (held r) (read (now (self .entry)))) ⌝ }
+        ensures { λ r. ⌜ ((w : ℕ) → Called (F·Family .meaning (now (self .entry) .family)) (ask (of-tally rule) w) (held r) (read (now (self .entry))) (read (now (self .entry)))) ⌝ }
     {
         tally_of(&self.family, &self.masks, rule)
     }
 
     pub fn figures(&self, rule: usize, workspace: &mut [u64]) -> Result<Option<Figures>, PlanFault>
-        ensures asked { λ r. ⌜ Step (F·Family .meaning (now (self .entry) .family)) (read (now (self .entry))) (ask (of-figures rule) (length (now (workspace .entry)))) (figured r) (read (now (self .entry))) ⌝ }
+        ensures called { λ r. ⌜ Called (F·Family .meaning (now (self .entry) .family)) (ask (of-figures rule) (length (now (workspace .entry)))) (figured r) (read (now (self .entry))) (read (now (self .entry))) ⌝ }
         ensures refused_leaves_workspace { λ r. ⌜ ((e : PlanFault) → r ≡ Err e → now (workspace .exit) ≡ now (workspace .entry)) ⌝ }
     {
         figures_of(&self.family, &self.masks, self.void, rule, workspace)
