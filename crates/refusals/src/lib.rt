@@ -3,8 +3,10 @@
 // A fault is an enum with a case for each reason, and `report` gives its number, the layer that
 // found it, and the place at fault. docs/refusals.md has the whole list.
 ghost use mathlib.Core.Path.{_≡_};
+ghost use Rattle.refusals.specs.declared.FrameFault.the-variants.{Post, Plan};
+ghost use Rattle.refusals.specs.declared.LineFault.the-variants.{Frame};
 ghost use Rattle.refusals.specs.declared.PostError.the-variants.{Fault, Memory};
-ghost use Rattle.refusals.specs.Reports.{refusal, post-report, plan-report};
+ghost use Rattle.refusals.specs.Reports.{refusal, post-report, plan-report, frame-report, line-report, file-report};
 use std::alloc::AllocError;
 use std::alloc::Refused;
 
@@ -151,5 +153,100 @@ impl PlanFault {
             PlanFault::LevelsFull => told(26, Layer::Plan, 0),
             PlanFault::NoLevel => told(27, Layer::Plan, 0),
         }
+    }
+}
+
+// Why a frame is turned down.
+#[derive(Clone, Copy, PartialEq, Eq, Debug)]
+pub enum FrameFault {
+    // The first byte stands for no kind, or there is none.
+    Kind,
+    // A frame of this kind may not come here.
+    Order,
+    // A fixed part is too short or too long.
+    Fixed,
+    // The number of cells is not 1 to 192.
+    Cells,
+    // What the frame posts is at fault.
+    Post(PostFault),
+    // The call that the frame asks for is turned down.
+    Plan(PlanFault),
+}
+
+impl FrameFault {
+    pub fn report(self) -> Report
+        ensures { λ r. ⌜ r ≡ frame-report self ⌝ }
+    {
+        match self {
+            FrameFault::Kind => told(3, Layer::Frame, 0),
+            FrameFault::Fixed => told(4, Layer::Frame, 0),
+            FrameFault::Cells => told(5, Layer::Frame, 0),
+            FrameFault::Order => told(21, Layer::Frame, 0),
+            FrameFault::Post(fault) => fault.report(),
+            FrameFault::Plan(fault) => fault.report(),
+        }
+    }
+}
+
+pub impl From<PostFault> for FrameFault as FrameFaultFromPost {
+    ghost converts = { λ fault r. r ≡ Post fault };
+
+    fn from(fault: PostFault) -> FrameFault {
+        FrameFault::Post(fault)
+    }
+}
+
+pub impl From<PlanFault> for FrameFault as FrameFaultFromPlan {
+    ghost converts = { λ fault r. r ≡ Plan fault };
+
+    fn from(fault: PlanFault) -> FrameFault {
+        FrameFault::Plan(fault)
+    }
+}
+
+// Why a line is turned down.
+#[derive(Clone, Copy, PartialEq, Eq, Debug)]
+pub enum LineFault {
+    // It is empty, too long, or has no newline.
+    Line,
+    // A character is no digit: the index of the first. Or the digits are odd in number: how many.
+    Digit { place: usize },
+    // The frame that it spells is at fault.
+    Frame(FrameFault),
+}
+
+impl LineFault {
+    pub fn report(self) -> Report
+        ensures { λ r. ⌜ r ≡ line-report self ⌝ }
+    {
+        match self {
+            LineFault::Line => told(1, Layer::Line, 0),
+            LineFault::Digit { place } => told(2, Layer::Line, place),
+            LineFault::Frame(fault) => fault.report(),
+        }
+    }
+}
+
+pub impl From<FrameFault> for LineFault as LineFaultFromFrame {
+    ghost converts = { λ fault r. r ≡ Frame fault };
+
+    fn from(fault: FrameFault) -> LineFault {
+        LineFault::Frame(fault)
+    }
+}
+
+// Why a file is turned down: which line, and what is wrong with it.
+#[derive(Clone, Copy, PartialEq, Eq, Debug)]
+pub struct FileFault {
+    pub line: u64,
+    pub fault: LineFault,
+}
+
+impl FileFault {
+    // The line's number stands beside the report, in `line`.
+    pub fn report(self) -> Report
+        ensures { λ r. ⌜ r ≡ file-report self ⌝ }
+    {
+        self.fault.report()
     }
 }
