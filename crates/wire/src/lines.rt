@@ -4,7 +4,7 @@
 // long a line is, only its first 517 characters are kept: one more than a line may have, so that a
 // line which is too long still shows that it is.
 //
-// Proved: the buffer holds exactly the first 517 characters pushed since it was last empty.
+// Proved of each push: the buffer then holds the first 517 of what it held and the character.
 ghost use mathlib.Core.Path.{_≡_};
 ghost use mathlib.Core.List.{[]};
 ghost use Prim.Native.Nat.{_≤_};
