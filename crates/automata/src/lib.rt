@@ -6,6 +6,7 @@
 // A step costs a few comparisons and at most one look-up.
 //
 // Each kind proves the laws of an automaton, and each step is the one that the meaning gives.
+#![tactic(auto)]
 ghost use Rattle.std.specs.Prelude.{◌≡◌, ℕ, ◌-◌, ◌/◌, ◌^◌, ◌<◌, ◌≤◌, min, length, MatchOption, MatchResult, slice_index};
 ghost use Rattle.refusals.specs.First.{First};
 ghost use Rattle.automata.specs.Automaton.{Automaton, Lawful};

@@ -1,4 +1,5 @@
 // What a reader would try first, as tests that are proved and then run.
+#![tactic(auto)]
 #[cfg(test)]
 mod tests {
     use automata::{Among, CounterAutomaton, Map, Table};

@@ -1,6 +1,7 @@
 // A crew's fortnight. Standard input has a line for each day: its name, and the letters of the duties
 // still open there (F free, E early, L late, N night, S standby). For each of a few patterns the
 // program prints how few and how many of it there can still be, and which numbers can be reached.
+#![tactic(auto)]
 use automata::{Among, CounterAutomaton, Map, Table};
 use refusals::PostFault;
 use std::fmt;

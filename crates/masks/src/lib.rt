@@ -3,6 +3,7 @@
 // mask is widened by `u64::from`, which changes no member.
 //
 // Each function answers for every input: a number past the width is no member.
+#![tactic(auto)]
 ghost use Rattle.std.specs.Prelude.{◌≡◌, ℕ, cond, [], ◌∷◌, length, Decides, MatchOption};
 ghost use Rattle.std.specs.Int.Count.{ones};
 ghost use Rattle.masks.specs.Bit.{bit, has, Within};

@@ -5,6 +5,7 @@
 // greatest total, `Totals` the set of the totals 0 to 63. Sweeps are written once for all of them.
 //
 // Each measure proves the laws of a measure, and that its codes say what its name says.
+#![tactic(auto)]
 ghost use Rattle.std.specs.Prelude.{◌≡◌};
 ghost use Rattle.measures.specs.Measuring.{Measuring, Laws, Idempotent};
 ghost use Rattle.measures.specs.Kinds.{least, least_laws, least_idempotent, greatest, greatest_laws, greatest_idempotent, totals, totals_laws, totals_idempotent};

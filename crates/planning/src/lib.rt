@@ -6,4 +6,5 @@
 // Proved of every call: what it does to the masks and levels, and that whatever decision log the
 // plan shows before the call, it shows the log after it (`Called`). Refused calls and failed tries
 // change nothing in the plan, and refused ones nothing in the lent workspace.
+#![tactic(auto)]
 pub mod plan;

@@ -1,6 +1,7 @@
 // What a program prints of a file, as text.
 //
 // Each type here is one line, or a part of one. Proved: the text of each, character by character.
+#![tactic(auto)]
 ghost use Rattle.std.specs.Prelude.{◌≡◌, ◌<◌, false, List, [], ◌∷◌, ◌++◌, Some, codes, decimal};
 ghost use Rattle.std.specs.Fmt.{digit_glyph};
 ghost use Rattle.refusals.specs.Reports.{file_report};

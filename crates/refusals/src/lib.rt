@@ -2,6 +2,7 @@
 //
 // A fault is an enum with a case for each reason, and `report` gives its number, the layer that
 // found it, and the place at fault. docs/refusals.md has the whole list.
+#![tactic(auto)]
 ghost use Rattle.std.specs.Prelude.{◌≡◌};
 ghost use Rattle.refusals.specs.declared.FrameFault.TheVariants.{Post, Plan};
 ghost use Rattle.refusals.specs.declared.LineFault.TheVariants.{Frame};

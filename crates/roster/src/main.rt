@@ -4,6 +4,7 @@
 // It only reads, hands over and prints: what each line does is the interpreter's. Input and output are
 // buffered, and what was printed is on its way before the program waits for more input. It ends with
 // status 0, unless a line of the file stopped it: then with 1.
+#![tactic(auto)]
 use anyhow::anyhow;
 use interpreter::file::{FilePlan, FileRoster, Told};
 use interpreter::read;

@@ -6,6 +6,7 @@
 // program prints how to run it again, and ends with status 1.
 //
 //     trials [SEED [CASES]]
+#![tactic(auto)]
 use crate::bench::Bench;
 use crate::counts::Counts;
 use crate::dice::Dice;

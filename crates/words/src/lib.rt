@@ -5,6 +5,7 @@
 //
 // Proved: the state always is the length of the longest proper prefix of the word that is a suffix of
 // what came after the latest occurrence, and the total is the number of occurrences.
+#![tactic(auto)]
 ghost use Rattle.std.specs.Prelude.{◌≡◌, ℕ, ◌+◌, ◌-◌, ◌*◌, ◌<◌, ◌≤◌, length, take, MatchResult, slice_index};
 ghost use Rattle.words.specs.Faults.{GoodWord, WordFault};
 ghost use Rattle.words.specs.Laws.{counting_lawful};

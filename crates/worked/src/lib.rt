@@ -1,6 +1,7 @@
 // Worked examples as a theorem: each row of a table is a small case whose result a reader can check
 // by hand, and one statement says that all of them hold of the definitions that the contracts use.
 // To add a row, write it into `examples` in specs/Examples.antt and a `refl` into the proof.
+#![tactic(auto)]
 ghost use Rattle.std.specs.Prelude.{◌≡◌, length};
 ghost use Rattle.worked.specs.Examples.{examples, AllHold};
 
