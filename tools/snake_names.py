@@ -19,8 +19,8 @@ MARKS = r"(?:(?:abbrev|pattern|unfoldable|axiom|record|data|pub)\s+)*"
 DECLARES = re.compile(r"^\s*" + MARKS + r"(" + NAME + r")(?=[\s:({\[]|$)")
 FROM_KIT = re.compile(r"use (?:Rattle\.std|Rattle\.core|logic|mathlib)[\w.']*\.\{([^}]*)\}")
 
-# Names that Rattle makes, which a lemma of the same spelling would drag along.
-MADE = set()
+# Names that would fall together with a word of the kit's.
+OTHERWISE = {"bit-and": "bit-bit_and", "bit-or": "bit-bit_or"}
 
 
 def code(line):
@@ -37,7 +37,7 @@ def declared():
             m = DECLARES.match(line)
             if m and (re.search(r"\s:\s", line) or re.match(r"\s*(?:pub )?(?:record|data)\s", line)):
                 names.add(m[1])
-    return names - MADE
+    return names
 
 
 def taken_from_kit(text):
@@ -48,7 +48,7 @@ def taken_from_kit(text):
 
 
 def turn(text, names):
-    return TOKEN.sub(lambda m: m[0].replace("-", "_") if m[0] in names else m[0], text)
+    return TOKEN.sub(lambda m: OTHERWISE.get(m[0], m[0].replace("-", "_")) if m[0] in names else m[0], text)
 
 
 def turn_source(text, names):

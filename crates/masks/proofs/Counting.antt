@@ -7,7 +7,7 @@ use lib.Pow.{mod-pow-add}
 use Rattle.std.proofs.lemmas.Bool.{cases_eq, cases_lt}
 use Rattle.masks.specs.Bit.{bit, has, In}
 use Rattle.masks.specs.Members.{members, lost}
-use Rattle.masks.proofs.Bits.{bit_lt, bit_and, bit_not, bit_past}
+use Rattle.masks.proofs.Bits.{bit_lt, bit-bit_and, bit_not, bit_past}
 
 zero_or_one : (x : ℕ) → x < 2 → (x ≡ 0) ⊎ (x ≡ 1)
 zero_or_one zero h = inl refl
@@ -49,7 +49,7 @@ lost_members w before after (suc n) h le =
     test : (has before n && not (has after n)) ≡ has kept n
     test =
         both (bit before n) (bit after n) (zero_or_one (bit before n) (bit_lt before n)) (zero_or_one (bit after n) (bit_lt after n))
-        ∙ ap (λ (x : ℕ). eqb x 1) (sym (bit_and before (2 ^ w - 1 - after) n ∙ ap (min (bit before n)) (bit_not w after n h (omega arith))))
+        ∙ ap (λ (x : ℕ). eqb x 1) (sym (bit-bit_and before (2 ^ w - 1 - after) n ∙ ap (min (bit before n)) (bit_not w after n h (omega arith))))
 
 pub length_lost : (w before after : ℕ) → before < 2 ^ w → after < 2 ^ w → bit_and before (2 ^ w - 1 - after) < 2 ^ w → length (lost w before after) ≡ ones (bit_and before (2 ^ w - 1 - after))
 length_lost w before after hb ha small =

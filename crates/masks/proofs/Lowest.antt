@@ -6,7 +6,7 @@ use lib.Dec.{eqb-zero-suc, eqb-suc-zero, eqb-suc-suc}
 use Rattle.std.proofs.lemmas.Bool.{cases_eq, cases_lt, eq-eqb, ne_eqb}
 use Rattle.masks.specs.Bit.{bit, has}
 use Rattle.masks.specs.Members.{members}
-use Rattle.masks.proofs.Bits.{bit_lt, bit_zero, bit_half, bit_and, bit_past}
+use Rattle.masks.proofs.Bits.{bit_lt, bit_zero, bit_half, bit-bit_and, bit_past}
 
 -- t is the lowest member of m, and r is m without it
 pub record Lowest (m r t : ℕ) : Type 0 where
@@ -15,7 +15,7 @@ pub record Lowest (m r t : ℕ) : Type 0 where
   pub rest : (j : ℕ) → bit r j ≡ cond (eqb t j) 0 (bit m j)
 
 half_rest : (m j : ℕ) → bit (bit_and m (m - 1)) (suc j) ≡ min (bit (m / 2) j) (bit ((m - 1) / 2) j)
-half_rest m j = bit_and m (m - 1) (suc j) ∙ ap₂ min (bit_half m j) (bit_half (m - 1) j)
+half_rest m j = bit-bit_and m (m - 1) (suc j) ∙ ap₂ min (bit_half m j) (bit_half (m - 1) j)
 
 zeroth : (m : ℕ) → bit m 0 ≡ m % 2
 zeroth m = ap (λ (x : ℕ). x % 2) (omega arith)
@@ -24,7 +24,7 @@ odd : (m : ℕ) → m % 2 ≡ 1 → Lowest m (bit_and m (m - 1)) 0
 odd m e = record { here = zeroth m ∙ e; below = λ j h. absurd (omega arith); rest = at }
   where
     at : (j : ℕ) → bit (bit_and m (m - 1)) j ≡ cond (eqb 0 j) 0 (bit m j)
-    at zero = bit_and m (m - 1) 0 ∙ ap (min (bit m 0)) (zeroth (m - 1)) ∙ omega arith
+    at zero = bit-bit_and m (m - 1) 0 ∙ ap (min (bit m 0)) (zeroth (m - 1)) ∙ omega arith
     at (suc j) =
         let same : (m - 1) / 2 ≡ m / 2 = omega arith in
         rw (eqb-zero-suc j) (half_rest m j ∙ ap (λ x. min (bit (m / 2) j) (bit x j)) same ∙ twice (bit (m / 2) j) ∙ sym (bit_half m j))
@@ -40,11 +40,11 @@ even m t e l = record { here = bit_half m t ∙ l.here; below = low; rest = at }
     low (suc j) h = bit_half m j ∙ l.below j (omega arith)
 
     at : (j : ℕ) → bit (bit_and m (m - 1)) j ≡ cond (eqb (suc t) j) 0 (bit m j)
-    at zero = rw (eqb-suc-zero t) (bit_and m (m - 1) 0 ∙ (let z = zeroth m ∙ e in omega arith))
+    at zero = rw (eqb-suc-zero t) (bit-bit_and m (m - 1) 0 ∙ (let z = zeroth m ∙ e in omega arith))
     at (suc j) =
         let less : (m - 1) / 2 ≡ m / 2 - 1 = omega arith in
         rw (eqb-suc-suc t j)
-        (half_rest m j ∙ ap (λ x. min (bit (m / 2) j) (bit x j)) less ∙ sym (bit_and (m / 2) (m / 2 - 1) j) ∙ l.rest j
+        (half_rest m j ∙ ap (λ x. min (bit (m / 2) j) (bit x j)) less ∙ sym (bit-bit_and (m / 2) (m / 2 - 1) j) ∙ l.rest j
         ∙ ap (cond (eqb t j) 0) (sym (bit_half m j)))
 
 -- `trailing_zeros` finds it

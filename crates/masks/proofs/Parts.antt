@@ -4,7 +4,7 @@ use lib.Bits.{bit_and, and_le_r, and_comm}
 use lib.Count.{ones, ones-le}
 use Rattle.masks.specs.Bit.{bit, Within}
 use Rattle.masks.specs.Members.{members}
-use Rattle.masks.proofs.Bits.{bit_lt, bit_and, within_and, ones_same}
+use Rattle.masks.proofs.Bits.{bit_lt, bit-bit_and, within_and, ones_same}
 use Rattle.masks.proofs.Counting.{length_members}
 
 pub within_refl : (a : ℕ) → Within a a
@@ -25,13 +25,13 @@ within_empty a b p z = let l = within_le a b p in omega arith
 
 -- what two masks share is part of each, and holds whatever is part of both
 pub shared_left : (a b : ℕ) → Within (bit_and a b) a
-shared_left a b k h = let e = bit_and a b k in let l = bit_lt a k in let g : bit (bit_and a b) k ≡ 1 = h in omega arith
+shared_left a b k h = let e = bit-bit_and a b k in let l = bit_lt a k in let g : bit (bit_and a b) k ≡ 1 = h in omega arith
 
 pub shared_right : (a b : ℕ) → Within (bit_and a b) b
-shared_right a b k h = let e = bit_and a b k in let l = bit_lt b k in let g : bit (bit_and a b) k ≡ 1 = h in omega arith
+shared_right a b k h = let e = bit-bit_and a b k in let l = bit_lt b k in let g : bit (bit_and a b) k ≡ 1 = h in omega arith
 
 pub shared_holds : (u a b : ℕ) → Within u a → Within u b → Within u (bit_and a b)
-shared_holds u a b p q k h = let e = bit_and a b k in let x : bit a k ≡ 1 = p k h in let y : bit b k ≡ 1 = q k h in omega arith
+shared_holds u a b p q k h = let e = bit-bit_and a b k in let x : bit a k ≡ 1 = p k h in let y : bit b k ≡ 1 = q k h in omega arith
 
 -- a mask of few bits has few members
 pub members_few : (w n m : ℕ) → m < 2 ^ n → n ≤ w → length (members w m) ≤ n
