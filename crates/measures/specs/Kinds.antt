@@ -4,7 +4,7 @@ use Rattle.std.proofs.Common.{sym, ap, ◌∙◌, inl, inr, ⊎_elim, mod-eq_of_
 use Rattle.std.proofs.Math.Nat.{add-mul-mod_self_right, mul-add-mod_self_right, mul-mod_left}
 use Rattle.std.specs.Int.Bits.{bit_or, or_self}
 use Rattle.std.proofs.lemmas.Nat.{or_comm, or_block, or_mod}
-use Rattle.masks.proofs.Bits.{same_bits, bit_or}
+use Rattle.masks.proofs.Bits.{same_bits, bit-bit_or}
 use Rattle.masks.specs.Bit.{bit}
 use Rattle.measures.specs.Measuring.{Measuring, Laws, Idempotent}
 
@@ -96,10 +96,10 @@ totals_laws = record {
   where
     assoc : (x y z : ℕ) → bit_or (bit_or x y) z ≡ bit_or x (bit_or y z)
     assoc x y z = same_bits (bit_or (bit_or x y) z) (bit_or x (bit_or y z)) (λ k.
-        let p = bit_or (bit_or x y) z k in
-        let q = bit_or x y k in
-        let r = bit_or x (bit_or y z) k in
-        let s = bit_or y z k in
+        let p = bit-bit_or (bit_or x y) z k in
+        let q = bit-bit_or x y k in
+        let r = bit-bit_or x (bit_or y z) k in
+        let s = bit-bit_or y z k in
         omega arith)
 
     by_zero : (x : ℕ) → x ≤ top → shifted x 0 ≡ x

@@ -3,7 +3,7 @@ use Rattle.std.proofs.Common.{◌≡◌, ℕ, ◌^◌, ◌<◌, ◌≤◌, ◌�
 use lib.Bits.{bit_and}
 use Rattle.std.proofs.lemmas.Bool.{eqb-true, eq-eqb}
 use Rattle.masks.specs.Bit.{bit, has, In}
-use Rattle.masks.proofs.Bits.{bit_lt, bit_and}
+use Rattle.masks.proofs.Bits.{bit_lt, bit-bit_and}
 use Rattle.automata.specs.Automaton.{Automaton, Lawful}
 use Rattle.automata.specs.Reading.{end}
 use Rattle.automata.proofs.Readings.{end_below}
@@ -49,11 +49,11 @@ module _ (a : Automaton) (lawful : Lawful a) (masks : List ℕ) where
   counts_kept sense tally met small decided =
       sieve_is 64 tally (bit_and tally met) (count_stays a masks sense) small
       (λ k h i.
-      let b = bit_and tally met k in
+      let b = bit-bit_and tally met k in
       let x = bit_lt tally k in
       let y = bit_lt met k in
       (omega arith, (count_decided a masks sense k).1 ((decided k h).0 (eq-eqb (bit met k) 1 (omega arith)))))
       (λ k h i t.
-      let b = bit_and tally met k in
+      let b = bit-bit_and tally met k in
       let m = eqb-true (bit met k) 1 ((decided k h).1 ((count_decided a masks sense k).0 t)) in
       omega arith)

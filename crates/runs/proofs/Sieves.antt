@@ -3,7 +3,7 @@ use Rattle.std.proofs.Common.{◌≡◌, ℕ, zero, suc, ◌+◌, ◌*◌, ◌^�
 use lib.Bits.{or_shifted}
 use Rattle.std.proofs.lemmas.Bool.{cases_Bool, cases_lt, cases_eq, eqb-true, eq-eqb, ne_eqb, false≢true}
 use Rattle.masks.specs.Bit.{bit, has, In, Within}
-use Rattle.masks.proofs.Bits.{bit_lt, bit_or, bit_one, bit_zero, same_mask}
+use Rattle.masks.proofs.Bits.{bit_lt, bit-bit_or, bit_one, bit_zero, same_mask}
 use Rattle.runs.specs.Choosing.{sieve}
 use Rattle.runs.proofs.Tests.{and_both, both_and}
 
@@ -11,7 +11,7 @@ use Rattle.runs.proofs.Tests.{and_both, both_and}
 top_bit : (n x k : ℕ) → x < 2 ^ n → bit (x + 2 ^ n) k ≡ max (cond (eqb n k) 1 0) (bit x k)
 top_bit n x k h =
     ap (λ (y : ℕ). bit y k) (shift ∙ sym (or_shifted 1 n x h))
-    ∙ bit_or (1 * 2 ^ n) x k ∙ ap (λ (y : ℕ). max y (bit x k)) (ap (λ (y : ℕ). bit y k) (one-mul (2 ^ n)) ∙ bit_one n k)
+    ∙ bit-bit_or (1 * 2 ^ n) x k ∙ ap (λ (y : ℕ). max y (bit x k)) (ap (λ (y : ℕ). bit y k) (one-mul (2 ^ n)) ∙ bit_one n k)
   where
     shift : x + 2 ^ n ≡ 1 * 2 ^ n + x
     shift = let e = one-mul (2 ^ n) in omega arith

@@ -6,7 +6,7 @@ use lib.Count.{count_trailing_zeros}
 use lib.Pow.{pow-lt}
 use Rattle.std.proofs.lemmas.Bool.{cases_lt, cases_eq, eqb-true, eq-eqb}
 use Rattle.masks.specs.Bit.{bit, has, In}
-use Rattle.masks.proofs.Bits.{bit_lt, bit_zero, bit_not, bit_past, bit_and, bit_or}
+use Rattle.masks.proofs.Bits.{bit_lt, bit_zero, bit_not, bit_past, bit-bit_and, bit-bit_or}
 use Rattle.masks.proofs.Lowest.{lowest, lowest_within}
 
 -- a test of one thing is one of another where each gives the other
@@ -67,14 +67,14 @@ pub and_decided : {P Q : Type 0} (x y k : ℕ) → Decides (has x k) P → Decid
 and_decided x y k p q = (
   λ t.
       let o = eqb-true (bit (bit_and x y) k) 1 t in
-      let b = bit_and x y k in
+      let b = bit-bit_and x y k in
       let f = bit_lt x k in
       let g = bit_lt y k in
       (p.0 (eq-eqb (bit x k) 1 (omega arith)), q.0 (eq-eqb (bit y k) 1 (omega arith))),
   λ w.
       let f = eqb-true (bit x k) 1 (p.1 w.0) in
       let g = eqb-true (bit y k) 1 (q.1 w.1) in
-      eq-eqb (bit (bit_and x y) k) 1 (let b = bit_and x y k in omega arith),
+      eq-eqb (bit (bit_and x y) k) 1 (let b = bit-bit_and x y k in omega arith),
 )
 
 -- masks that share something share a count
@@ -87,20 +87,20 @@ shared_some x y some small =
     t = count_trailing_zeros 64 (bit_and x y)
 
     first : bit (bit_and x y) t ≡ 1 → In x t
-    first o = let b = bit_and x y t in let f = bit_lt x t in omega arith
+    first o = let b = bit-bit_and x y t in let f = bit_lt x t in omega arith
 
     second : bit (bit_and x y) t ≡ 1 → In y t
-    second o = let b = bit_and x y t in let f = bit_lt y t in omega arith
+    second o = let b = bit-bit_and x y t in let f = bit_lt y t in omega arith
 
 pub shared_none : (x y k : ℕ) → bit_and x y ≡ 0 → In x k → In y k → ⊥
-shared_none x y k z i j = let b = bit_and x y k in let e = ap (λ (m : ℕ). bit m k) z in let o = bit_zero k in omega arith
+shared_none x y k z i j = let b = bit-bit_and x y k in let e = ap (λ (m : ℕ). bit m k) z in let o = bit_zero k in omega arith
 
 -- the counts of one number more
 pub or_decided : (P : ℕ → Type 0) (x y n k : ℕ) → Decides (has x k) ((q : ℕ) × (q < n) × P q) → Decides (has y k) (P n) → Decides (has (bit_or x y) k) ((q : ℕ) × (q < n + 1) × P q)
 or_decided P x y n k dx dy = (
   λ t.
       let o = eqb-true (bit (bit_or x y) k) 1 t in
-      let b = bit_or x y k in
+      let b = bit-bit_or x y k in
       ⊎_elim
       (λ (i : bit x k ≡ 1). let w = dx.0 (eq-eqb (bit x k) 1 i) in (w.0, omega (arith, w.1), w.2))
       (λ (out : bit x k ≡ 1 → ⊥).
@@ -109,7 +109,7 @@ or_decided P x y n k dx dy = (
       (n, omega arith, dy.0 (eq-eqb (bit y k) 1 (omega arith))))
       (cases_eq (bit x k) 1),
   λ w.
-      let b = bit_or x y k in
+      let b = bit-bit_or x y k in
       let lx = bit_lt x k in
       let ly = bit_lt y k in
       eq-eqb (bit (bit_or x y) k) 1

@@ -3,7 +3,7 @@ use Rattle.std.proofs.Common.{◌≡◌, ℕ, ◌<◌, ◌≤◌, cond, ap, ◌�
 use Rattle.std.proofs.lemmas.Nat.{one_shl}
 use Rattle.std.proofs.lemmas.Bool.{cases_lt, cases_eq, eq-eqb, ne_eqb}
 use Rattle.masks.specs.Bit.{In, bit}
-use Rattle.masks.proofs.Bits.{bit_or, bit_one, bit_zero, bit_lt}
+use Rattle.masks.proofs.Bits.{bit-bit_or, bit_one, bit_zero, bit_lt}
 use Rattle.measures.specs.Kinds.{least, greatest, totals, shifted, shifted_far, top}
 use Rattle.sweeps.proofs.Sees.{Sees}
 
@@ -29,10 +29,10 @@ greatest_sees f h = record {
 pub totals_sees : (t : ℕ) → Sees totals (λ x. In x t)
 totals_sees t = record {
   never = λ n. let z = bit_zero t in omega arith;
-  left = λ x y p. let e = bit_or x y t in let l = bit_lt y t in omega arith;
-  right = λ x y p. let e = bit_or x y t in let l = bit_lt x t in omega arith;
+  left = λ x y p. let e = bit-bit_or x y t in let l = bit_lt y t in omega arith;
+  right = λ x y p. let e = bit-bit_or x y t in let l = bit_lt x t in omega arith;
   either = λ x y p.
-      let e = bit_or x y t in
+      let e = bit-bit_or x y t in
       ⊎_elim (λ (l : bit x t < bit y t). let k = bit_lt y t in inr (omega arith)) (λ (g : bit y t ≤ bit x t). let k = bit_lt x t in inl (omega arith)) (cases_lt (bit x t) (bit y t));
 }
 

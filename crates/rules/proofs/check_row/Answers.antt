@@ -10,10 +10,10 @@ returns-then-cells-lt1 c =
 pub returns-in-Some : goal.returns-in-Some
 returns-in-Some c = no_cell (omega arith) (omega arith) c.in-Some.place c.in-Some.ensures
 
-pub returns-in-Some-first-repeat : goal.returns-in-Some-first-repeat
-returns-in-Some-first-repeat c =
-    let repeat = c.in-Some-first-repeat.ensures in
-    repeats (omega arith) (omega arith) c.in-default.ensures c.in-Some-first-repeat.place repeat.0 repeat.1 repeat.2
+pub returns-in-Some-first_repeat : goal.returns-in-Some-first_repeat
+returns-in-Some-first_repeat c =
+    let repeat = c.in-Some-first_repeat.ensures in
+    repeats (omega arith) (omega arith) c.in_default.ensures c.in-Some-first_repeat.place repeat.0 repeat.1 repeat.2
 
 pub returns : goal.returns
-returns c = record { some = omega arith; few = omega arith; below = c.in-default.ensures; different = c.in-default-first-repeat.ensures }
+returns c = record { some = omega arith; few = omega arith; below = c.in_default.ensures; different = c.in_default-first_repeat.ensures }

@@ -20,39 +20,39 @@ rounds-init g c = (
   λ h. absurd (omega (arith, h)),
 )
 
-pub overflow-add-runs : goal.overflow-add-runs
-overflow-add-runs g c =
+pub overflow_add-runs : goal.overflow_add-runs
+overflow_add-runs g c =
     let few = (g.F.Family.lawful c.args.family.now).few in
     let top : room (masks c.args.cells.now c.args.tallies.now) ≤ 7680 =
     room_few (masks c.args.cells.now c.args.tallies.now) (record { cells = c.told-cells; narrow = c.fits-cells; tallies = c.told-tallies; fit = c.fits-tallies }) in
-    let small : c.rule-count-count.result ≤ 72 = omega (arith, few, c.rule-count-count.ensures) in
+    let small : c.rule_count-count.result ≤ 72 = omega (arith, few, c.rule_count-count.ensures) in
     let sofar : c.rounds.removed ≤ 7680 = omega (arith, c.rounds.invariant.2, top) in
-    let prod : c.rule-count-count.result * c.rounds.removed ≤ 72 * 7680 = mul-le _ _ 72 7680 small sofar in
+    let prod : c.rule_count-count.result * c.rounds.removed ≤ 72 * 7680 = mul-le _ _ 72 7680 small sofar in
     omega (arith, prod, small, c.rounds.invariant.1, c.loop-rule.invariant.2, c.loop-rule-test.true)
 
-pub overflow-add-removed : goal.overflow-add-removed
-overflow-add-removed g c =
+pub overflow_add-removed : goal.overflow_add-removed
+overflow_add-removed g c =
     let m = g.F.Family.meaning c.args.family.now in
     let s = masks c.loop-rule.cells c.loop-rule.tallies in
-    let h : c.loop-rule.rule < m.rules = omega (arith, c.loop-rule-test.true, c.rule-count-count.ensures) in
+    let h : c.loop-rule.rule < m.rules = omega (arith, c.loop-rule-test.true, c.rule_count-count.ensures) in
     let sum : room (run m c.loop-rule.rule s) + taken m c.loop-rule.rule s ≡ room s = run_room m (g.F.Family.lawful c.args.family.now) c.loop-rule.rule s h c.loop-rule.invariant.4 in
     let top : room (masks c.args.cells.now c.args.tallies.now) ≤ 7680 =
     room_few (masks c.args.cells.now c.args.tallies.now) (record { cells = c.told-cells; narrow = c.fits-cells; tallies = c.told-tallies; fit = c.fits-tallies }) in
-    omega (arith, top, sum, c.rounds.invariant.2, c.loop-rule.invariant.3, c.run-rule-taken.ensures.removed)
+    omega (arith, top, sum, c.rounds.invariant.2, c.loop-rule.invariant.3, c.run_rule-taken.ensures.removed)
 
-pub spot-left-requires : goal.spot-left-requires
-spot-left-requires g c =
+pub spot_left-requires : goal.spot_left-requires
+spot_left-requires g c =
     let m = g.F.Family.meaning c.args.family.now in
     let law = g.F.Family.lawful c.args.family.now in
     let r = c.loop-rule.rule in
     let s = masks c.loop-rule.cells c.loop-rule.tallies in
-    let h : r < m.rules = omega (arith, c.loop-rule-test.true, c.rule-count-count.ensures) in
+    let h : r < m.rules = omega (arith, c.loop-rule-test.true, c.rule_count-count.ensures) in
     record {
       rule = omega (arith, h, law.few);
       full = λ e j l. elim c.if-runs-gt1.branch [
         | then-runs-gt1 w ↦
-            let none : taken m r s ≡ 0 = sym c.run-rule-taken.ensures.removed ∙ eqb-true c.run-rule-taken.result 0 (sym w.spot-left-is ∙ e) in
-            let same : masks c.run-rule-taken.new.cells c.run-rule-taken.new.tallies ≡ s = c.run-rule-taken.ensures.after ∙ run_same m law r s h c.loop-rule.invariant.4 none in
+            let none : taken m r s ≡ 0 = sym c.run_rule-taken.ensures.removed ∙ eqb-true c.run_rule-taken.result 0 (sym w.spot-left-is ∙ e) in
+            let same : masks c.run_rule-taken.new.cells c.run_rule-taken.new.tallies ≡ s = c.run_rule-taken.ensures.after ∙ run_same m law r s h c.loop-rule.invariant.4 none in
             subst (λ (x : Masks). 0 < get_or x.cells j 0) (sym same) (c.loop-rule.invariant.5 (omega (arith, w.if-runs-gt1.true)) j l)
         | else-runs-gt1 w ↦ let more : 1 < c.loop-rule.runs + 1 = ltb-true 1 (c.loop-rule.runs + 1) (sym w.spot-left-is ∙ e) in absurd (omega (arith, more, w.if-runs-gt1.false))
       ];
@@ -64,21 +64,21 @@ loop-rule-preserved g c =
     let law = g.F.Family.lawful c.args.family.now in
     let r = c.loop-rule.rule in
     let s = masks c.loop-rule.cells c.loop-rule.tallies in
-    let t = masks c.run-rule-taken.new.cells c.run-rule-taken.new.tallies in
-    let h : r < m.rules = omega (arith, c.loop-rule-test.true, c.rule-count-count.ensures) in
-    let after : t ≡ run m r s = c.run-rule-taken.ensures.after in
-    let gone : c.run-rule-taken.result ≡ taken m r s = c.run-rule-taken.ensures.removed in
+    let t = masks c.run_rule-taken.new.cells c.run_rule-taken.new.tallies in
+    let h : r < m.rules = omega (arith, c.loop-rule-test.true, c.rule_count-count.ensures) in
+    let after : t ≡ run m r s = c.run_rule-taken.ensures.after in
+    let gone : c.run_rule-taken.result ≡ taken m r s = c.run_rule-taken.ensures.removed in
     let same : room t ≡ room (run m r s) = ap room after in
     let sum : room (run m r s) + taken m r s ≡ room s = run_room m law r s h c.loop-rule.invariant.4 in
     let up : c.rounds.removed ≤ c.loop-rule.removed = c.loop-rule.invariant.1 in
     let d = c.loop-rule.removed - c.rounds.removed in (
       carries_rule m r d s (masks c.rounds.cells c.rounds.tallies) r d c.loop-rule.invariant.0
-          t c.run-rule-taken.result _ _ h after gone c.in-default.ensures (omega (arith, up)) (omega (arith, up)),
+          t c.run_rule-taken.result _ _ h after gone c.in_default.ensures (omega (arith, up)) (omega (arith, up)),
       omega (arith, up),
       omega (arith, c.loop-rule.invariant.2),
       omega (arith, same, sum, gone, c.loop-rule.invariant.3),
       subst Sized (sym after) (run_sized m law r s h c.loop-rule.invariant.4),
-      λ _. c.in-default.ensures.cells,
+      λ _. c.in_default.ensures.cells,
     )
 
 pub rounds-preserved : goal.rounds-preserved
@@ -89,9 +89,9 @@ rounds-preserved g c =
     let s1 = masks c.rounds.cells c.rounds.tallies in
     let s0 = masks c.args.cells.now c.args.tallies.now in
     let d = c.loop-rule.removed - c.rounds.removed in
-    let count = c.rule-count-count.result in
+    let count = c.rule_count-count.result in
     let up : c.rounds.removed ≤ c.loop-rule.removed = c.loop-rule.invariant.1 in
-    let over : m.rules ≤ r = omega (arith, c.loop-rule-test.false, c.rule-count-count.ensures) in
+    let over : m.rules ≤ r = omega (arith, c.loop-rule-test.false, c.rule_count-count.ensures) in
     let more : c.rounds.removed + 1 ≤ c.loop-rule.removed = omega (arith, up, c.if-removed-before.false) in
     let turn = carries_round m r d s s1 r d c.loop-rule.invariant.0 over (omega (arith, more)) in
     let p : count * (c.rounds.removed + 1) ≤ count * c.loop-rule.removed = mul-le-mul_left count more in
@@ -111,15 +111,15 @@ returns-in-Some g c =
     let s = masks c.loop-rule.cells c.loop-rule.tallies in
     let s1 = masks c.rounds.cells c.rounds.tallies in
     let s0 = masks c.args.cells.now c.args.tallies.now in
-    let t = masks c.run-rule-taken.new.cells c.run-rule-taken.new.tallies in
+    let t = masks c.run_rule-taken.new.cells c.run_rule-taken.new.tallies in
     let d = c.loop-rule.removed - c.rounds.removed in
     let up : c.rounds.removed ≤ c.loop-rule.removed = c.loop-rule.invariant.1 in
-    let h : r < m.rules = omega (arith, c.loop-rule-test.true, c.rule-count-count.ensures) in
+    let h : r < m.rules = omega (arith, c.loop-rule-test.true, c.rule_count-count.ensures) in
     let e = fails r (place_of c.in-Some.spot) in
-    let w : Settles m t e 0 0 s1 (r + 1) (d + c.run-rule-taken.result) =
-    carries_empty m r d s s1 r d c.loop-rule.invariant.0 t (place_of c.in-Some.spot) c.run-rule-taken.result _ _ h
-    c.run-rule-taken.ensures.after c.run-rule-taken.ensures.removed c.in-Some.ensures refl refl in
-    let v : Settles m t e 0 0 s0 (c.loop-rule.runs + 1) (c.loop-rule.removed + c.run-rule-taken.result) =
+    let w : Settles m t e 0 0 s1 (r + 1) (d + c.run_rule-taken.result) =
+    carries_empty m r d s s1 r d c.loop-rule.invariant.0 t (place_of c.in-Some.spot) c.run_rule-taken.result _ _ h
+    c.run_rule-taken.ensures.after c.run_rule-taken.ensures.removed c.in-Some.ensures refl refl in
+    let v : Settles m t e 0 0 s0 (c.loop-rule.runs + 1) (c.loop-rule.removed + c.run_rule-taken.result) =
     recount (c.rounds.invariant.0 t e _ _ w) refl refl (omega (arith, c.loop-rule.invariant.2)) (omega (arith, up)) in
     let sized : Sized s0 = record { cells = c.told-cells; narrow = c.fits-cells; tallies = c.told-tallies; fit = c.fits-tallies } in
     (omega arith, record { rounds = v; outcome = λ a. settles_outcome m law sized a v })
@@ -133,7 +133,7 @@ returns-then-removed-before g c =
     let s1 = masks c.rounds.cells c.rounds.tallies in
     let s0 = masks c.args.cells.now c.args.tallies.now in
     let d = c.loop-rule.removed - c.rounds.removed in
-    let over : m.rules ≤ r = omega (arith, c.loop-rule-test.false, c.rule-count-count.ensures) in
+    let over : m.rules ≤ r = omega (arith, c.loop-rule-test.false, c.rule_count-count.ensures) in
     let w : Settles m s well 0 0 s1 r d = carries_end m r d s s1 r d c.loop-rule.invariant.0 over (omega (arith, c.if-removed-before.true)) in
     let v : Settles m s well 0 0 s0 c.loop-rule.runs c.loop-rule.removed =
     recount (c.rounds.invariant.0 s well _ _ w) refl refl (omega (arith, c.loop-rule.invariant.2)) (omega (arith, c.if-removed-before.true)) in

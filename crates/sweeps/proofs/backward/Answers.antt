@@ -11,10 +11,10 @@ loop-i-init g c =
     let few = (g.C.CounterAutomaton.lawful c.args.automaton.now).few in
     let ms = c.args.masks.now in
     let at : ℕ → ℕ → ℕ = backward_at m a ms in
-    let last = c.last-row-row.ensures in
+    let last = c.last_row-row.ensures in
     let stored = c.store.ensures in
     let states : c.states.result ≡ a.states = c.states.ensures in
-    let row : (q : ℕ) → q < a.states → get_or c.last-row-row.result q 0 ≡ at (length ms) q =
+    let row : (q : ℕ) → q < a.states → get_or c.last_row-row.result q 0 ≡ at (length ms) q =
     λ q h. last.each q (omega arith) ∙ sym (backward_last g.M.Measure.laws a ms (length ms) q (omega arith)) in (
       row,
       λ i q h l k.
@@ -41,8 +41,8 @@ loop-i-preserved g c =
     let above : n ≡ j + 1 = omega arith in
     let codes = c.store-in-loop-i.new.codes in
     let stored = c.store-in-loop-i.ensures in
-    let previous = c.previous-row-row.ensures in
-    let row : (q : ℕ) → q < a.states → get_or c.previous-row-row.result q 0 ≡ at j q =
+    let previous = c.previous_row-row.ensures in
+    let row : (q : ℕ) → q < a.states → get_or c.previous_row-row.result q 0 ≡ at j q =
     λ q h. previous.each q h ∙ backward_next g.M.Measure.laws a lawful ms j q (λ p. get_or c.loop-i.row p 0) within (λ p l. inv.0 p l ∙ ap (λ k. at k p) above) in (
       row,
       λ i q h l k. ⊎_elim

@@ -25,8 +25,8 @@ loop-i-preserved g c =
     let inv = c.loop-i.invariant in
     let n = c.loop-i.i in
     let stored = c.store-in-loop-i.ensures in
-    let row : (q : ℕ) → q < 16 → get_or c.next-row-row.result q 0 ≡ at (n + 1) q =
-    λ q h. c.next-row-row.ensures q h ∙ forward_next g.M.Measure.laws a (g.C.CounterAutomaton.lawful c.args.automaton.now) ms n q (λ p. get_or c.loop-i.row p 0) (omega arith) inv.0 in (
+    let row : (q : ℕ) → q < 16 → get_or c.next_row-row.result q 0 ≡ at (n + 1) q =
+    λ q h. c.next_row-row.ensures q h ∙ forward_next g.M.Measure.laws a (g.C.CounterAutomaton.lawful c.args.automaton.now) ms n q (λ p. get_or c.loop-i.row p 0) (omega arith) inv.0 in (
       row,
       λ i q h k. ⊎_elim
           (λ (l : i < n + 1). stored.before (16 * i + q) (omega arith) ∙ inv.1 i q (omega arith) k)

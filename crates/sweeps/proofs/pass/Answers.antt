@@ -10,8 +10,8 @@ bounds-row-next g c =
     let l = g.C.CounterAutomaton.lawful c.args.automaton.now in
     omega (arith, c.step-next.ensures.next, l.next_below c.args.state c.in-Some.duty, l.few)
 
-pub offset-bounds-row-next : goal.offset-bounds-row-next
-offset-bounds-row-next g c =
+pub offset_bounds-row-next : goal.offset_bounds-row-next
+offset_bounds-row-next g c =
     let l = g.C.CounterAutomaton.lawful c.args.automaton.now in
     let h : c.step-next.result.0 < 16 = omega (arith, c.step-next.ensures.next, l.next_below c.args.state c.in-Some.duty, l.few) in
     search rules
@@ -21,8 +21,8 @@ bounds-row-next-in-loop-duty g c =
     let l = g.C.CounterAutomaton.lawful c.args.automaton.now in
     omega (arith, c.step-next.ensures.next, l.next_below c.args.state c.in-Some.duty, l.few)
 
-pub offset-bounds-row-next-in-loop-duty : goal.offset-bounds-row-next-in-loop-duty
-offset-bounds-row-next-in-loop-duty g c =
+pub offset_bounds-row-next-in-loop-duty : goal.offset_bounds-row-next-in-loop-duty
+offset_bounds-row-next-in-loop-duty g c =
     let l = g.C.CounterAutomaton.lawful c.args.automaton.now in
     let h : c.step-next.result.0 < 16 = omega (arith, c.step-next.ensures.next, l.next_below c.args.state c.in-Some.duty, l.few) in
     search rules

@@ -12,7 +12,7 @@ loop-duty-init g c =
     let laws = g.M.Measure.laws in
     let a = g.C.CounterAutomaton.meaning c.args.automaton.now in
     let f : ℕ → ℕ = λ d. m.increase (get_or c.args.row.now (a.next c.args.state d) 0) (a.increase c.args.state d) in
-    let whole : c.into-iter-duty-iterator.result.rest ≡ c.args.mask = cc in (
+    let whole : c.into_iter-duty-iterator.result.rest ≡ c.args.mask = cc in (
       tt,
       tt,
       subst (Neutral m) (sym c.none-code.ensures) (neutral_none laws),
@@ -24,8 +24,8 @@ bounds-row-next g c =
     let l = g.C.CounterAutomaton.lawful c.args.automaton.now in
     omega (arith, c.step-next.ensures.next, l.next_below c.args.state c.in-Some.duty, l.few)
 
-pub offset-bounds-row-next : goal.offset-bounds-row-next
-offset-bounds-row-next g c =
+pub offset_bounds-row-next : goal.offset_bounds-row-next
+offset_bounds-row-next g c =
     let l = g.C.CounterAutomaton.lawful c.args.automaton.now in
     let h : c.step-next.result.0 < 16 = omega (arith, c.step-next.ensures.next, l.next_below c.args.state c.in-Some.duty, l.few) in
     search rules

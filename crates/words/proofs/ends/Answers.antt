@@ -8,4 +8,4 @@ pub returns : goal.returns
 returns c =
     let p = c.args.p.now in
     let rest = drop (length c.args.text.now - length p) c.args.text.now in
-    same_from_decides c.ends-with.result (bytes_eq p rest) (slice_eq-Decides Decides-eqb p rest c.ends-with.result c.ends-with.ensures.value) (bytes_eq-Decides p rest)
+    same_from_decides c.ends_with.result (bytes_eq p rest) (slice_eq-Decides Decides-eqb p rest c.ends_with.result c.ends_with.ensures.value) (bytes_eq-Decides p rest)

@@ -4,11 +4,11 @@ use Rattle.words.specs.Search.{state_after, text_at}
 use Rattle.words.proofs.Searches.{state_below}
 use Rattle.words.proofs.search.Goals as goal
 
-pub overflow-cast-next : goal.overflow-cast-next
-overflow-cast-next c =
+pub overflow_cast-next : goal.overflow_cast-next
+overflow_cast-next c =
     let w = take c.args.len c.args.duties in
     let below = state_below w (text_at w (c.loop-k.k / 16) (c.loop-k.k % 16)) (omega arith) in
-    omega (arith, below, c.next-state.ensures)
+    omega (arith, below, c.next_state.ensures)
 
 pub returns : goal.returns
 returns c q d (hq, hd) =

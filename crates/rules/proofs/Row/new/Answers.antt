@@ -2,10 +2,10 @@ use Rattle.std.proofs.Common.{◌≡◌, ℕ, ◌<◌, ◌≤◌, List, length, 
 use Rattle.rules.specs.Rows.{Different}
 use Rattle.rules.proofs.Row.new.Goals as goal
 
-pub invariant-of-result : goal.invariant-of-result
-invariant-of-result c =
-    let good = c.in-ok-check-row.ensures in
-    let same = sym c.in-ok-cells.ensures.items in (
+pub invariant_of-result : goal.invariant_of-result
+invariant_of-result c =
+    let good = c.in_ok-check_row.ensures in
+    let same = sym c.in_ok-cells.ensures.items in (
       subst (λ (xs : List ℕ). 1 ≤ length xs) same good.some,
       (
         subst (λ (xs : List ℕ). length xs ≤ 64) same good.few,

@@ -2,5 +2,5 @@ use Rattle.std.proofs.Common.{arith}
 use Rattle.rules.specs.Senses.{no_sense}
 use Rattle.rules.proofs.Sense.from_number.Goals as goal
 
-pub returns-in-default : goal.returns-in-default
-returns-in-default c = no_sense (omega arith)
+pub returns-in_default : goal.returns-in_default
+returns-in_default c = no_sense (omega arith)

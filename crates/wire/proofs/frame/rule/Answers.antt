@@ -6,5 +6,5 @@ use Rattle.wire.proofs.frame.rule.Goals as goal
 pub returns-in-len10-up : goal.returns-in-len10-up
 returns-in-len10-up c = record { long = search rules; shows = search (rules, take_rest) }
 
-pub returns-in-default : goal.returns-in-default
-returns-in-default c = wrong_length (search rules)
+pub returns-in_default : goal.returns-in_default
+returns-in_default c = wrong_length (search rules)

@@ -6,5 +6,5 @@ use Rattle.words.proofs.Word.new.Goals as goal
 
 pub returns : goal.returns
 returns c =
-    let good = c.in-ok-check.ensures in
-    (good, subst (λ w. Counts c.args.duties.now (counting w)) (sym c.in-front-duties.ensures) (counts c.args.duties.now good.some))
+    let good = c.in_ok-check.ensures in
+    (good, subst (λ w. Counts c.args.duties.now (counting w)) (sym c.in_front-duties.ensures) (counts c.args.duties.now good.some))
