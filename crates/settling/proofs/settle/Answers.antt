@@ -51,10 +51,10 @@ spot_left-requires g c =
       rule = omega (arith, h, law.few);
       full = λ e j l. elim c.if-runs-gt1.branch [
         | then-runs-gt1 w ↦
-            let none : taken m r s ≡ 0 = sym c.run_rule-taken.ensures.removed ∙ eqb-true c.run_rule-taken.result 0 (sym w.spot-left-is ∙ e) in
+            let none : taken m r s ≡ 0 = sym c.run_rule-taken.ensures.removed ∙ eqb-true c.run_rule-taken.result 0 (sym w.spot_left-is ∙ e) in
             let same : masks c.run_rule-taken.new.cells c.run_rule-taken.new.tallies ≡ s = c.run_rule-taken.ensures.after ∙ run_same m law r s h c.loop-rule.invariant.4 none in
             subst (λ (x : Masks). 0 < get_or x.cells j 0) (sym same) (c.loop-rule.invariant.5 (omega (arith, w.if-runs-gt1.true)) j l)
-        | else-runs-gt1 w ↦ let more : 1 < c.loop-rule.runs + 1 = ltb-true 1 (c.loop-rule.runs + 1) (sym w.spot-left-is ∙ e) in absurd (omega (arith, more, w.if-runs-gt1.false))
+        | else-runs-gt1 w ↦ let more : 1 < c.loop-rule.runs + 1 = ltb-true 1 (c.loop-rule.runs + 1) (sym w.spot_left-is ∙ e) in absurd (omega (arith, more, w.if-runs-gt1.false))
       ];
     }
 

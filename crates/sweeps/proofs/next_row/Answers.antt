@@ -6,7 +6,7 @@ use Rattle.sweeps.proofs.next_row.Goals as goal
 use Rattle.sweeps.proofs.next_row.Goals.{then-row-state, else-row-state}
 
 pub pass-requires : goal.pass-requires
-pass-requires g c κs q h =
+pass-requires g c q h =
     let m = g.M.Measure.kind in
     let a = g.C.CounterAutomaton.meaning c.args.automaton.now in
     subst (Neutral m) (sym (c.loop-state.invariant q h)) (over_neutral g.M.Measure.laws (λ p. passed m a c.args.mask q p (get_or c.args.row.now p 0)) (up_to c.loop-state.state))

@@ -1,7 +1,7 @@
 use Rattle.std.proofs.Common.{◌≡◌, ℕ, ◌<◌, length, get_or}
 use Rattle.masks.specs.Members.{members}
 use Rattle.sweeps.specs.Joining.{over}
-use Rattle.sweeps.specs.Place.{Neutral, goal as gives}
+use Rattle.sweeps.specs.Place.{Neutral, given as gives}
 use Rattle.sweeps.proofs.pass.Given as goal
 
 -- what is joined already, with what the duties still to come give, is what was there with what all give
