@@ -17,7 +17,7 @@ loop-i-preserved c =
     below_more _ _ c.loop-i.invariant (λ s.
     let inside : s.0 < length (take (c.loop-i.i - 0) cells) = omega (arith, s.1, length-take (c.loop-i.i - 0) cells) in
     let same : get_or (take (c.loop-i.i - 0) cells) s.0 0 ≡ get_or cells s.0 0 = get_or-take (c.loop-i.i - 0) cells s.0 0 (omega (arith, s.1)) in
-    eqb-false _ _ (c.if-contains.ensures.cases s.0 0 inside) (same ∙ s.2))
+    eqb-false _ _ (c.if-contains.ensures.cases s.0 0 (omega arith) inside) (same ∙ s.2))
 
 pub returns : goal.returns
 returns c k h s = c.loop-i.invariant k (omega arith) s

@@ -27,8 +27,8 @@ returns c =
     let same : c.cells-cell-items.result.now ≡ row = c.cells-cell-items.ensures in
     let all : length row ≡ c.loop-i.i = omega (arith, ap length same, c.loop-i-test.false, c.loop-i.auto.i-end) in
     record {
-      zeros-behind = λ i h. c.loop-i.invariant.2 i (omega arith);
-      in-front = ap (λ (n : ℕ). take n c.loop-i.masks) all ∙ c.loop-i.invariant.1 ∙ ap (λ l. along l cells) (take_all c.loop-i.i row (omega arith));
+      zeros_behind = λ i h. c.loop-i.invariant.2 i (omega arith);
+      in_front = ap (λ (n : ℕ). take n c.loop-i.masks) all ∙ c.loop-i.invariant.1 ∙ ap (λ l. along l cells) (take_all c.loop-i.i row (omega arith));
     }
 
 pub loop-i-init : goal.loop-i-init

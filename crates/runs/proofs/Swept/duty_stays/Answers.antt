@@ -4,7 +4,7 @@ use Rattle.masks.specs.Bit.{bit}
 use Rattle.runs.specs.Codes.{MetThrough}
 use Rattle.runs.proofs.Judged.{duty_met}
 use Rattle.runs.proofs.Swept.duty_stays.Goals as goal
-use Rattle.runs.proofs.Swept.duty_stays.Goals.{else-is-reached-via-then-is-reached+else-overlap, else-is-reached-via-else-is-reached}
+use Rattle.runs.proofs.Swept.duty_stays.Goals.{else-is_reached-via-then-is_reached+else-overlap, else-is_reached-via-else-is_reached}
 
 pub returns-then-overlap : goal.returns-then-overlap
 returns-then-overlap g c =
@@ -12,7 +12,7 @@ returns-then-overlap g c =
     let lawful = g.C.CounterAutomaton.lawful c.args.automaton.now in
     let s = c.args.self.now in
     let w = c.overlap.ensures.0 c.if-overlap.true in
-    let here = (c.met-through.ensures w.0 w.1).0 (eq-eqb (bit c.met-through.result w.0) 1 w.2) in (
+    let here = (c.met_through.ensures w.0 w.1).0 (eq-eqb (bit c.met_through.result w.0) 1 w.2) in (
       λ _. (duty_met a lawful s.masks.now s.sense c.args.tally c.args.place c.args.duty c.requires.place c.requires.duty c.requires.held).1
           (c.loop-state.state, omega (arith, c.loop-state-test.true, c.states-state-end.ensures), (w.0, w.1, w.3, here)),
       λ _. refl,
@@ -28,11 +28,11 @@ loop-state-preserved g c q k h l i p =
     let same : q ≡ c.loop-state.state = omega arith in
     let here : MetThrough s.sense a s.masks.now c.args.place c.loop-state.state c.args.duty k =
     subst (λ (n : ℕ). MetThrough s.sense a s.masks.now c.args.place n c.args.duty k) same p in
-    elim c.else-is-reached.branch [
-      | else-is-reached-via-then-is-reached+else-overlap w ↦
-          both_ways w.overlap.result w.if-overlap.false (w.overlap.ensures.1 (k, l, eqb-true (bit w.met-through.result k) 1 ((w.met-through.ensures k l).1 here), i))
-      | else-is-reached-via-else-is-reached w ↦
-          c.is-reached.ensures w.if-is-reached.false a c.requires.ready (omega (arith, c.loop-state-test.true, c.states-state-end.ensures)) c.args.duty k l here
+    elim c.else-is_reached.branch [
+      | else-is_reached-via-then-is_reached+else-overlap w ↦
+          both_ways w.overlap.result w.if-overlap.false (w.overlap.ensures.1 (k, l, eqb-true (bit w.met_through.result k) 1 ((w.met_through.ensures k l).1 here), i))
+      | else-is_reached-via-else-is_reached w ↦
+          c.is_reached.ensures w.if-is_reached.false a c.requires.ready (omega (arith, c.loop-state-test.true, c.states-state-end.ensures)) c.args.duty k l here
     ])
     (cases_lt q c.loop-state.state)
 

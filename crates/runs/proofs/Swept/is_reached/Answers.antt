@@ -17,10 +17,10 @@ returns-in-AtLeast c none a ready state d k h p =
     let w = needed_at a masks s.least s.greatest is ready.swept in
     unreached_greatest a masks i q d k w c.requires.place state (eqb-true code 0 (not-false (eqb code 0) none)) (subst (λ (t : Sense). MetThrough t a masks i q d k) is p)
 
-pub returns-in-default : goal.returns-in-default
-returns-in-default c none a ready state d k h p =
+pub returns-in_default : goal.returns-in_default
+returns-in_default c none a ready state d k h p =
     let s = c.args.self.now in
     let i = c.args.place in
     let q = c.args.state in
     let code = get_or s.least.forth.now (16 * i + q) 0 in
-    unreached s.sense a s.masks.now s.least s.greatest i q d k c.in-default.not-AtLeast ready.swept c.requires.place state h (eqb-true code top (not-false (eqb code top) none)) p
+    unreached s.sense a s.masks.now s.least s.greatest i q d k c.in_default.not-AtLeast ready.swept c.requires.place state h (eqb-true code top (not-false (eqb code top) none)) p

@@ -12,22 +12,22 @@ loop-duty-init g c =
     let a = g.C.CounterAutomaton.meaning c.args.automaton.now in
     let s = c.args.self.now in
     let mask = get_or s.masks.now c.args.place 0 in
-    let whole : c.into-iter-duty-iterator.result.rest ≡ mask = cc in
-    (tt, tt, sifted_none mask (duty_stays a s.masks.now s.sense c.args.tally c.args.place) c.into-iter-duty-iterator.result.rest (omega arith) whole)
+    let whole : c.into_iter-duty-iterator.result.rest ≡ mask = cc in
+    (tt, tt, sifted_none mask (duty_stays a s.masks.now s.sense c.args.tally c.args.place) c.into_iter-duty-iterator.result.rest (omega arith) whole)
 
-pub duty-stays-requires : goal.duty-stays-requires
-duty-stays-requires g c =
+pub duty_stays-requires : goal.duty_stays-requires
+duty_stays-requires g c =
     let p = sifted_next c.next.new.self.rest c.in-Some.duty c.in-Some.ensures.steps c.loop-duty.invariant.2 in
     record { ready = c.requires.ready; place = c.requires.place; duty = p.0; held = p.1 }
 
-pub overflow-cast-staying : goal.overflow-cast-staying
-overflow-cast-staying g c = omega (arith, (sifted_next c.next.new.self.rest c.in-Some.duty c.in-Some.ensures.steps c.loop-duty.invariant.2).0)
+pub overflow_cast-staying : goal.overflow_cast-staying
+overflow_cast-staying g c = omega (arith, (sifted_next c.next.new.self.rest c.in-Some.duty c.in-Some.ensures.steps c.loop-duty.invariant.2).0)
 
-pub overflow-shl-staying : goal.overflow-shl-staying
-overflow-shl-staying g c = (sifted_next c.next.new.self.rest c.in-Some.duty c.in-Some.ensures.steps c.loop-duty.invariant.2).0
+pub overflow_shl-staying : goal.overflow_shl-staying
+overflow_shl-staying g c = (sifted_next c.next.new.self.rest c.in-Some.duty c.in-Some.ensures.steps c.loop-duty.invariant.2).0
 
-pub loop-duty-preserved-then-duty-stays : goal.loop-duty-preserved-then-duty-stays
-loop-duty-preserved-then-duty-stays g c =
+pub loop-duty-preserved-then-duty_stays : goal.loop-duty-preserved-then-duty_stays
+loop-duty-preserved-then-duty_stays g c =
     let a = g.C.CounterAutomaton.meaning c.args.automaton.now in
     let s = c.args.self.now in
     let d : ℕ = c.in-Some.duty in
@@ -35,7 +35,7 @@ loop-duty-preserved-then-duty-stays g c =
     let is = c.in-Some.ensures.steps in
     let inv = c.loop-duty.invariant.2 in
     let small = (sifted_next c.next.new.self.rest d is inv).0 in
-    (tt, tt, sifted_hit c.next.new.self.rest _ d is (same ∙ c.if-duty-stays.true) (ap (bit_or c.loop-duty.staying) (one_shl d 16 small)) inv)
+    (tt, tt, sifted_hit c.next.new.self.rest _ d is (same ∙ c.if-duty_stays.true) (ap (bit_or c.loop-duty.staying) (one_shl d 16 small)) inv)
 
 pub loop-duty-preserved : goal.loop-duty-preserved
 loop-duty-preserved g c =
@@ -43,7 +43,7 @@ loop-duty-preserved g c =
     let s = c.args.self.now in
     let d : ℕ = c.in-Some.duty in
     let same = same_tests (duty_stays a s.masks.now s.sense c.args.tally c.args.place d) c.duty_stays.result (duty_decided a s.masks.now s.sense c.args.tally c.args.place d) c.duty_stays.ensures in
-    (tt, tt, sifted_miss c.next.new.self.rest d c.in-Some.ensures.steps (same ∙ c.if-duty-stays.false) c.loop-duty.invariant.2)
+    (tt, tt, sifted_miss c.next.new.self.rest d c.in-Some.ensures.steps (same ∙ c.if-duty_stays.false) c.loop-duty.invariant.2)
 
 pub returns : goal.returns
 returns g c = sifted_all c.in-None.ensures.steps c.loop-duty.invariant.2

@@ -9,7 +9,7 @@ pub loop-state-preserved : goal.loop-state-preserved
 loop-state-preserved g c k h =
     let a = g.C.CounterAutomaton.meaning c.args.automaton.now in
     let s = c.args.self.now in
-    or_decided (λ (q : ℕ). MetAtEnd s.sense a s.masks.now q k) c.loop-state.met c.met-at-end-met.result c.loop-state.state k (c.loop-state.invariant k h) (c.met-at-end-met.ensures k h)
+    or_decided (λ (q : ℕ). MetAtEnd s.sense a s.masks.now q k) c.loop-state.met c.met_at_end-met.result c.loop-state.state k (c.loop-state.invariant k h) (c.met_at_end-met.ensures k h)
 
 pub returns : goal.returns
 returns g c k h =

@@ -9,8 +9,8 @@ use Rattle.runs.proofs.Swept.narrow.Goals as goal
 pub loop-i-init : goal.loop-i-init
 loop-i-init g c = (refl, sym (values_lost_none c.args.cells.now), omega arith)
 
-pub kept-duties-kept-requires : goal.kept-duties-kept-requires
-kept-duties-kept-requires g c =
+pub kept_duties-kept-requires : goal.kept_duties-kept-requires
+kept_duties-kept-requires g c =
     let row : List ℕ = vec_items c.args.row.now.cells in
     let cells : List ℕ = c.args.cells.now in
     record {
@@ -24,8 +24,8 @@ bounds-self-i g c =
     let cells : List ℕ = c.args.cells.now in
     omega (arith, ap length c.requires.masks, length-map row (λ (j : ℕ). get_or cells j 0), ap length c.cells-cell-items.ensures, c.loop-i-test.true)
 
-pub overflow-add-removed : goal.overflow-add-removed
-overflow-add-removed g c =
+pub overflow_add-removed : goal.overflow_add-removed
+overflow_add-removed g c =
     omega (
       arith,
       c.args.row.now.few,
@@ -48,8 +48,8 @@ loop-i-preserved g c =
     let within : i < length row = omega (arith, ap length c.cells-cell-items.ensures, c.loop-i-test.true) in
     let cell : ℕ = get_or c.cells-cell-items.result.now i 0 in
     let mask : c.from.result ≡ get_or cells (get_or row i 0) 0 = c.from.ensures ∙ ap (λ (l : List ℕ). get_or l i 0) c.requires.masks ∙ get_or-map (λ (j : ℕ). get_or cells j 0) row i 0 0 within in
-    narrow_more row c.args.row.now.different i within f cells c.loop-i.cells cell c.from.result c.kept-duties-kept.result c.loop-i.removed c.removed-removed.result
-    (omega (arith, c.args.row.now.below i within, c.told-cells)) (ap (λ (l : List ℕ). get_or l i 0) c.cells-cell-items.ensures) mask c.kept-duties-kept.ensures
+    narrow_more row c.args.row.now.different i within f cells c.loop-i.cells cell c.from.result c.kept_duties-kept.result c.loop-i.removed c.removed-removed.result
+    (omega (arith, c.args.row.now.below i within, c.told-cells)) (ap (λ (l : List ℕ). get_or l i 0) c.cells-cell-items.ensures) mask c.kept_duties-kept.ensures
     (c.removed-removed.ensures ∙ ap (λ (m : ℕ). length (lost 64 c.from.result m)) c.from-in-loop-i.ensures)
     c.loop-i.invariant.0 c.loop-i.invariant.1 c.loop-i.invariant.2
 
