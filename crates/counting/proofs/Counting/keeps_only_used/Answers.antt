@@ -10,7 +10,7 @@ pub returns-in-AtMost : goal.returns-in-AtMost
 returns-in-AtMost g c =
     let a = g.C.CounterAutomaton.meaning c.args.self.now.automaton in
     let rules = vec_items c.args.self.now.rules in
-    let h = c.in-Some.ensures.finds in
+    let h = c.in-Some.ensures.lookup in
     let x = c.in-Some.rule.now in
     let at = c.deref.ensures.value in
     let one : (x.sense ≡ AtMost) ⊎ (x.sense ≡ AtLeast) = ⊎_elim (λ e. inl (sym c.sense.ensures ∙ e)) (λ e. inr (sym c.sense.ensures ∙ e)) c.in-AtMost.is in
@@ -25,7 +25,7 @@ returns-in-AtMost g c =
 
 pub returns-in-Exactly : goal.returns-in-Exactly
 returns-in-Exactly g c =
-    let h = c.in-Some.ensures.finds in
+    let h = c.in-Some.ensures.lookup in
     let x = c.in-Some.rule.now in
     let other : x.sense ≡ Exactly = sym c.sense.ensures ∙ c.in-Exactly.is in
     record {

@@ -16,7 +16,7 @@ returns-in-Some g c =
     let cells = c.args.cells.now in
     let h = c.in-Some.ensures.lookup in
     let x = c.in-Some.rule.now in
-    let told = c.row-figures.ensures in
+    let told = c.row_figures.ensures in
     record {
       figures = ⊎_elim
           (λ (k : w < workspace_needed). (told.short k).0 ∙ sym (short (family_of a rules) w c.args.rule (((family_of a rules).rule c.args.rule).figures cells) None k))

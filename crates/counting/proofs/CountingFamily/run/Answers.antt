@@ -5,8 +5,8 @@ use Rattle.counting.specs.Family.{family_of}
 use Rattle.counting.proofs.Found.{outside, short, found_inside, found_ran, none_lost}
 use Rattle.counting.proofs.CountingFamily.run.Goals as goal
 
-pub returns-in-default : goal.returns-in-default
-returns-in-default g c =
+pub returns-in_default : goal.returns-in_default
+returns-in_default g c =
     let a = g.C.CounterAutomaton.meaning c.args.self.now.automaton in
     let rules = vec_items c.args.self.now.rules in
     let w = length c.args.workspace.now in
@@ -14,7 +14,7 @@ returns-in-default g c =
     let tally = c.args.tally.now in
     let left : Left = record { cells = cells; tally = tally } in
     let at : length c.deref.result.now ≡ length rules = ap length c.deref.ensures.value in
-    let beyond : length c.deref.result.now ≤ c.args.rule = ltb-false c.args.rule (length c.deref.result.now) (sym c.in-default.ensures.finds.0) in
+    let beyond : length c.deref.result.now ≤ c.args.rule = ltb-false c.args.rule (length c.deref.result.now) (sym c.in_default.ensures.lookup.0) in
     let out : length rules ≤ c.args.rule = omega arith in
     let same = sym (outside (family_of a rules) w c.args.rule (((family_of a rules).rule c.args.rule).leaves cells tally) left out) in
     record {
@@ -31,7 +31,7 @@ returns-in-Ok g c =
     let w = length c.args.workspace.now in
     let cells = c.args.cells.now in
     let tally = c.args.tally.now in
-    let h = c.in-Some.ensures.finds in
+    let h = c.in-Some.ensures.lookup in
     let x = c.in-Some.rule.now in
     let did = c.in-Ok.ensures in
     let same = sym (found_ran a rules c.deref.result.now c.deref.ensures.value c.args.rule x h.3.0 h.1 w cells tally did.0) in
