@@ -3,6 +3,7 @@ use Rattle.std.specs.Prelude.{◌≡◌, ℕ, zero, suc, List, [], ◌∷◌, So
 use Rattle.measures.specs.declared.Figures.{Figures}
 use Rattle.refusals.specs.declared.PlanFault.{PlanFault}
 use Rattle.families.specs.Meaning.{Meaning}
+use Rattle.families.specs.declared.Family.{Ghosts}
 use Rattle.settling.specs.Masks.{Masks, masks}
 use Rattle.settling.specs.Rounds.{well, fails, Settles}
 use Rattle.settling.specs.Told.{place_of}
@@ -27,7 +28,7 @@ abbrev pub stacked : List Snapshot → ℕ → List Masks
 stacked stack zero = []
 stacked stack (suc n) = of (slice_index_or stack n blank) ∷ stacked stack n
 
-abbrev pub view : {F : Type 0} → Plan F → View
+abbrev pub view : {F : Type 0} {g : Ghosts F} → Plan F g → View
 view p = record { now = of p.masks; below = stacked p.stack p.levels; void = p.void }
 
 -- a roster as a plan with no open level

@@ -18,11 +18,11 @@ returns-then-tally-eq0 g c =
     record {
       family = refl;
       called = called m (g.F.Family.lawful p.family) d _ _ _ (Step.refuses d EmptyTally (bound_empty m p.void (length (stacked p.stack p.levels)) c.args.rule c.args.tally (length c.args.workspace.now) (omega arith)));
-      refused-leaves-workspace = λ e x. refl;
+      refused_leaves_workspace = λ e x. refl;
     }
 
-pub returns-then-rule-rule-count : goal.returns-then-rule-rule-count
-returns-then-rule-rule-count g c =
+pub returns-then-rule-rule_count : goal.returns-then-rule-rule_count
+returns-then-rule-rule_count g c =
     let p = c.args.self.now in
     let m = g.F.Family.meaning p.family in
     let d = try (on_tally c.args.rule c.args.tally) (length c.args.workspace.now) in
@@ -31,7 +31,7 @@ returns-then-rule-rule-count g c =
     record {
       family = refl;
       called = called m (g.F.Family.lawful p.family) d _ _ _ (Step.refuses d Rule (bound_outside m p.void (length (stacked p.stack p.levels)) c.args.rule c.args.tally (length c.args.workspace.now) o h));
-      refused-leaves-workspace = λ e x. refl;
+      refused_leaves_workspace = λ e x. refl;
     }
 
 pub returns-then-workspace-lt4160 : goal.returns-then-workspace-lt4160
@@ -44,7 +44,7 @@ returns-then-workspace-lt4160 g c =
     record {
       family = refl;
       called = called m (g.F.Family.lawful p.family) d _ _ _ (Step.refuses d Workspace (bound_short m p.void (length (stacked p.stack p.levels)) c.args.rule c.args.tally (length c.args.workspace.now) o h (omega arith)));
-      refused-leaves-workspace = λ e x. refl;
+      refused_leaves_workspace = λ e x. refl;
     }
 
 pub returns-then-self : goal.returns-then-self
@@ -57,7 +57,7 @@ returns-then-self g c =
     record {
       family = refl;
       called = called m (g.F.Family.lawful p.family) d _ _ _ (Step.refuses d Void (bound_void m p.void (length (stacked p.stack p.levels)) c.args.rule c.args.tally (length c.args.workspace.now) o h (omega arith) c.if-self.true));
-      refused-leaves-workspace = λ e x. refl;
+      refused_leaves_workspace = λ e x. refl;
     }
 
 pub returns : goal.returns
@@ -69,9 +69,9 @@ returns g c =
     let w = length c.args.workspace.now in
     let o : 0 < c.args.tally = omega arith in
     let h : c.args.rule < m.rules = omega arith in
-    let step = c.try-tally.ensures below w (try_from m _ (length below) d w (h, o) (omega arith) refl) in
+    let step = c.try_tally.ensures below w (try_from m _ (length below) d w (h, o) (omega arith) refl) in
     record {
       family = refl;
-      called = called m (g.F.Family.lawful p.family) (try d w) _ _ _ (try_not_void m (of p.masks) (of c.try-tally.new.masks) below p.void d w c.try-tally.result c.if-self.false step);
-      refused-leaves-workspace = λ e x. let z : ◌≡◌ {A = ℕ} 0 1 = cc in absurd (omega arith);
+      called = called m (g.F.Family.lawful p.family) (try d w) _ _ _ (try_not_void m (of p.masks) (of c.try_tally.new.masks) below p.void d w c.try_tally.result c.if-self.false step);
+      refused_leaves_workspace = λ e x. let z : ◌≡◌ {A = ℕ} 0 1 = cc in absurd (omega arith);
     }

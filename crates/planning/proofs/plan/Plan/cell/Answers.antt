@@ -7,4 +7,4 @@ pub returns : goal.returns
 returns g c w =
     let p = c.args.self.now in
     let m = g.F.Family.meaning p.family in
-    called m (g.F.Family.lawful p.family) _ _ _ _ (c.cell-of.ensures m (view p) w refl)
+    called m (g.F.Family.lawful p.family) _ _ _ _ (c.cell_of.ensures m (view p) w refl)

@@ -18,7 +18,7 @@ returns-then-cell-ge192 g c =
     record {
       family = refl;
       called = called m (g.F.Family.lawful p.family) d _ _ _ (Step.refuses d Cell (decide_outside m p.void (length (stacked p.stack p.levels)) c.args.cell c.args.mask (length c.args.workspace.now) (omega arith)));
-      refused-leaves-workspace = λ e x. refl;
+      refused_leaves_workspace = λ e x. refl;
     }
 
 pub returns-then-mask-eq0 : goal.returns-then-mask-eq0
@@ -29,7 +29,7 @@ returns-then-mask-eq0 g c =
     record {
       family = refl;
       called = called m (g.F.Family.lawful p.family) d _ _ _ (Step.refuses d EmptyMask (decide_empty m p.void (length (stacked p.stack p.levels)) c.args.cell c.args.mask (length c.args.workspace.now) (omega arith) (omega arith)));
-      refused-leaves-workspace = λ e x. refl;
+      refused_leaves_workspace = λ e x. refl;
     }
 
 pub returns-then-workspace-lt4160 : goal.returns-then-workspace-lt4160
@@ -41,7 +41,7 @@ returns-then-workspace-lt4160 g c =
     record {
       family = refl;
       called = called m (g.F.Family.lawful p.family) d _ _ _ (Step.refuses d Workspace (decide_short m p.void (length (stacked p.stack p.levels)) c.args.cell c.args.mask (length c.args.workspace.now) (omega arith) o (omega arith)));
-      refused-leaves-workspace = λ e x. refl;
+      refused_leaves_workspace = λ e x. refl;
     }
 
 pub returns-then-self : goal.returns-then-self
@@ -54,7 +54,7 @@ returns-then-self g c =
       family = refl;
       called = called m (g.F.Family.lawful p.family) d _ _ _
           (Step.refuses d Void (decide_void m p.void (length (stacked p.stack p.levels)) c.args.cell c.args.mask (length c.args.workspace.now) (omega arith) o (omega arith) c.if-self.true));
-      refused-leaves-workspace = λ e x. refl;
+      refused_leaves_workspace = λ e x. refl;
     }
 
 pub returns : goal.returns
@@ -65,9 +65,9 @@ returns g c =
     let d = on_cell c.args.cell c.args.mask in
     let w = length c.args.workspace.now in
     let o : 0 < c.args.mask = omega arith in
-    let step = c.try-cell.ensures below w (try_from m _ (length below) d w (omega arith, o) (omega arith) refl) in
+    let step = c.try_cell.ensures below w (try_from m _ (length below) d w (omega arith, o) (omega arith) refl) in
     record {
       family = refl;
-      called = called m (g.F.Family.lawful p.family) (try d w) _ _ _ (try_not_void m (of p.masks) (of c.try-cell.new.masks) below p.void d w c.try-cell.result c.if-self.false step);
-      refused-leaves-workspace = λ e x. let z : ◌≡◌ {A = ℕ} 0 1 = cc in absurd (omega arith);
+      called = called m (g.F.Family.lawful p.family) (try d w) _ _ _ (try_not_void m (of p.masks) (of c.try_cell.new.masks) below p.void d w c.try_cell.result c.if-self.false step);
+      refused_leaves_workspace = λ e x. let z : ◌≡◌ {A = ℕ} 0 1 = cc in absurd (omega arith);
     }

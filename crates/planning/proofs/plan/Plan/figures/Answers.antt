@@ -7,5 +7,5 @@ pub returns : goal.returns
 returns g c =
     record {
       called = called _ (g.F.Family.lawful c.args.self.now.family) _ _ _ _ (c.figures_of.ensures.asked (view c.args.self.now) refl refl);
-      refused-leaves-workspace = c.figures_of.ensures.refused-leaves-workspace;
+      refused_leaves_workspace = c.figures_of.ensures.refused_leaves_workspace;
     }

@@ -6,4 +6,4 @@ use Rattle.planning.proofs.plan.Plan.tally.Goals as goal
 pub returns : goal.returns
 returns g c w =
     let p = c.args.self.now in
-    called (g.F.Family.meaning p.family) (g.F.Family.lawful p.family) _ _ _ _ (c.tally-of.ensures (view p) w refl)
+    called (g.F.Family.meaning p.family) (g.F.Family.lawful p.family) _ _ _ _ (c.tally_of.ensures (view p) w refl)

@@ -20,5 +20,5 @@ returns g c below w free =
     let long : length c.args.masks.now.cells ≡ 192 = search rules in
     let h : c.args.cell < length s.cells = omega (arith, long, c.requires.cell) in
     let o : 0 < v = omega (arith, c.if-kept-eq0.false) in
-    try_settles (g.F.Family.meaning c.args.family.now) s below (on_cell c.args.cell c.args.mask) w free v (of c.settle-or-restore.new.masks) c.settle-or-restore.result
-    (named_cell s c.args.cell c.args.mask h) o c.settle-or-restore.ensures
+    try_settles (g.F.Family.meaning c.args.family.now) s below (on_cell c.args.cell c.args.mask) w free v (of c.settle_or_restore.new.masks) c.settle_or_restore.result
+    (named_cell s c.args.cell c.args.mask h) o c.settle_or_restore.ensures

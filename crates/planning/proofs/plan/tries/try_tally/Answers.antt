@@ -20,5 +20,5 @@ returns g c below w free =
     let long : length c.args.masks.now.tallies ≡ 72 = search rules in
     let h : c.args.rule < length s.tallies = omega (arith, long, c.requires.rule) in
     let o : 0 < v = omega (arith, c.if-kept-eq0.false) in
-    try_settles (g.F.Family.meaning c.args.family.now) s below (on_tally c.args.rule c.args.tally) w free v (of c.settle-or-restore.new.masks) c.settle-or-restore.result
-    (named_tally s c.args.rule c.args.tally h) o c.settle-or-restore.ensures
+    try_settles (g.F.Family.meaning c.args.family.now) s below (on_tally c.args.rule c.args.tally) w free v (of c.settle_or_restore.new.masks) c.settle_or_restore.result
+    (named_tally s c.args.rule c.args.tally h) o c.settle_or_restore.ensures
