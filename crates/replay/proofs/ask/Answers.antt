@@ -13,10 +13,10 @@ returns-in-Decide g c =
     let r = c.decide.result in
     record {
       family = c.decide.ensures.family;
-      called = called_as m _ _ _ _ _ _ (ap (request_of w) c.in-Decide.is) c.tried-answer.ensures c.decide.ensures.called;
+      called = called_as m _ _ _ _ _ _ (ap (request_of w) c.in-Decide.is) c.tried_answer.ensures c.decide.ensures.called;
       short = λ l.
           let e = tried_short m (view c.args.plan.now) (on_cell c.in-Decide.cell c.in-Decide.mask) w r (view c.decide.new.self) c.decide.ensures.called.step l in
-          c.decide.ensures.refused-leaves-workspace e.0 e.1;
+          c.decide.ensures.refused_leaves_workspace e.0 e.1;
     }
 
 pub returns-in-Bound : goal.returns-in-Bound
@@ -26,10 +26,10 @@ returns-in-Bound g c =
     let r = c.bound.result in
     record {
       family = c.bound.ensures.family;
-      called = called_as m _ _ _ _ _ _ (ap (request_of w) c.in-Bound.is) c.tried-answer-in-Bound.ensures c.bound.ensures.called;
+      called = called_as m _ _ _ _ _ _ (ap (request_of w) c.in-Bound.is) c.tried_answer-in-Bound.ensures c.bound.ensures.called;
       short = λ l.
           let e = tried_short m (view c.args.plan.now) (on_tally c.in-Bound.rule c.in-Bound.tally) w r (view c.bound.new.self) c.bound.ensures.called.step l in
-          c.bound.ensures.refused-leaves-workspace e.0 e.1;
+          c.bound.ensures.refused_leaves_workspace e.0 e.1;
     }
 
 pub returns-in-Cell : goal.returns-in-Cell
@@ -62,5 +62,5 @@ returns-in-Figures g c =
       called = called_as m _ _ _ _ _ _ (ap (request_of w) c.in-Figures.is) c.figures_answer.ensures c.figures.ensures.called;
       short = λ l.
           let e = figured_short m (view c.args.plan.now) c.in-Figures.rule w r (view c.args.plan.now) c.figures.ensures.called.step l in
-          c.figures.ensures.refused-leaves-workspace e.0 e.1;
+          c.figures.ensures.refused_leaves_workspace e.0 e.1;
     }

@@ -71,7 +71,7 @@ returns g c =
       short = λ l.
           let s = c.start-plan.ensures.short l in
           (s.0, stays s.1, c.loop-i.invariant.2 (omega (arith, c.start-plan.auto.workspace, l)) ∙ s.2);
-      short-answers = λ l.
+      short_answers = λ l.
           let e = (c.start-plan.ensures.short l).1 in
           subst (λ (x : View). Ran (m f) voided (map (call_of v) (take n xs)) (map answer_of (take n ys)) x) (stays e)
           (subst (λ (x : View). Ran (m f) x (map (call_of v) (take n xs)) (map answer_of (take n ys)) q) e three);
