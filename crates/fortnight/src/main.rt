@@ -2,6 +2,7 @@
 // still open there (F free, E early, L late, N night, S standby). For each of a few patterns the
 // program prints how few and how many of it there can still be, and which numbers can be reached.
 #![tactic(auto)]
+use anyhow::anyhow;
 use automata::{Among, CounterAutomaton, Map, Table};
 use refusals::PostFault;
 use std::fmt;
@@ -63,9 +64,9 @@ fn day_mask(line: &str) -> Option<u16> {
 // What went wrong with an automaton, by the number of its refusal.
 fn refused(fault: PostFault) -> anyhow::Error {
     if fault.report().number == 4 {
-        "a pattern has a wrong length".into()
+        anyhow!("a pattern has a wrong length")
     } else {
-        "a pattern has a wrong duty or state".into()
+        anyhow!("a pattern has a wrong duty or state")
     }
 }
 

@@ -1,14 +1,14 @@
 use Rattle.std.proofs.Common.{inl, inr, arith, rules}
 use Rattle.wire.specs.Digits.{no_line, no_digit, left_over}
 use Rattle.wire.proofs.digits.decode.Goals as goal
-use Rattle.wire.proofs.digits.decode.Goals.{then-not-line-via-then-not-line, then-not-line-via-else-not-line+then-is-empty, then-not-line-via-else-not-line+else-is-empty+then-text-gt-LONGEST}
+use Rattle.wire.proofs.digits.decode.Goals.{then-not-line-via-then-not-line, then-not-line-via-else-not-line+then-is_empty, then-not-line-via-else-not-line+else-is_empty+then-text-gt-LONGEST}
 
 pub returns-then-not-line : goal.returns-then-not-line
 returns-then-not-line c = no_line
     (elim c.then-not-line.branch [
       | then-not-line-via-then-not-line w ↦ inl w.if-not-line.true
-      | then-not-line-via-else-not-line+then-is-empty w ↦ inr (inl (search rules))
-      | then-not-line-via-else-not-line+else-is-empty+then-text-gt-LONGEST w ↦ inr (inr (omega arith))
+      | then-not-line-via-else-not-line+then-is_empty w ↦ inr (inl (search rules))
+      | then-not-line-via-else-not-line+else-is_empty+then-text-gt-LONGEST w ↦ inr (inr (omega arith))
     ])
 
 pub returns-in-Some : goal.returns-in-Some
