@@ -7,7 +7,8 @@
 //
 // Each kind proves the laws of an automaton, and each step is the one that the meaning gives.
 #![tactic(auto)]
-ghost use Rattle.std.specs.Prelude.{◌≡◌, ℕ, ◌-◌, ◌/◌, ◌^◌, ◌<◌, ◌≤◌, min, length, MatchOption, MatchResult, slice_index};
+
+ghost use Rattle.std.specs.Prelude.{◌≡◌, ℕ, ◌-◌, ◌/◌, ◌^◌, ◌<◌, ◌≤◌, min, length, IfOk, MatchOption, MatchResult, slice_index};
 ghost use Rattle.refusals.specs.First.{First};
 ghost use Rattle.automata.specs.Automaton.{Automaton, Lawful};
 ghost use Rattle.automata.specs.Reading.{total};
@@ -108,7 +109,8 @@ fn byte_at(bytes: &[u8], place: usize) -> u8
 
 impl<'a> Table<'a> {
     pub fn new(states: u8, steps: &'a [u8]) -> Result<Table<'a>, PostFault>
-        ensures { MatchResult result (λ t. GoodTable states steps.now × Reads states steps.now (table t.states t.steps.now)) (TableFault states steps.now) }
+        ensures made { MatchResult result (λ t. GoodTable states steps.now × Reads states steps.now (table t.states t.steps.now)) (TableFault states steps.now) }
+        ensures holds { IfOk result (λ t. (t.states ≡ states) × (t.steps.now ≡ steps.now)) }
     {
         let states = states as usize;
         if steps.len() != 16 * states {

@@ -6,7 +6,8 @@
 // Proved: the state always is the length of the longest proper prefix of the word that is a suffix of
 // what came after the latest occurrence, and the total is the number of occurrences.
 #![tactic(auto)]
-ghost use Rattle.std.specs.Prelude.{◌≡◌, ℕ, ◌+◌, ◌-◌, ◌*◌, ◌<◌, ◌≤◌, length, take, MatchResult, slice_index};
+
+ghost use Rattle.std.specs.Prelude.{◌≡◌, ℕ, ◌+◌, ◌-◌, ◌*◌, ◌<◌, ◌≤◌, length, take, IfOk, MatchResult, slice_index};
 ghost use Rattle.words.specs.Faults.{GoodWord, WordFault};
 ghost use Rattle.words.specs.Laws.{counting_lawful};
 ghost use Rattle.words.specs.Occurrences.{Counts};
@@ -112,7 +113,8 @@ fn search(duties: [u8; 16], len: usize) -> [u8; 256]
 
 impl Word {
     pub fn new(duties: &[u8]) -> Result<Word, PostFault>
-        ensures { MatchResult result (λ w. GoodWord duties.now × Counts duties.now (counting (take w.len w.duties))) (WordFault duties.now) }
+        ensures made { MatchResult result (λ w. GoodWord duties.now × Counts duties.now (counting (take w.len w.duties))) (WordFault duties.now) }
+        ensures holds { IfOk result (λ w. take w.len w.duties ≡ duties.now) }
     {
         check(duties)?;
         let len = duties.len();
