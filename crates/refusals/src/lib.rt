@@ -3,10 +3,14 @@
 // A fault is an enum with a case for each reason, and `report` gives its number, the layer that
 // found it, and the place at fault. docs/refusals.md has the whole list.
 #![tactic(auto)]
+
 ghost use Rattle.std.specs.Prelude.{◌≡◌};
 ghost use Rattle.refusals.specs.declared.FrameFault.TheVariants.{Post, Plan};
+ghost use Rattle.refusals.specs.declared.FrameError.TheVariants as frame;
 ghost use Rattle.refusals.specs.declared.LineFault.TheVariants.{Frame};
+ghost use Rattle.refusals.specs.declared.LineError.TheVariants as line;
 ghost use Rattle.refusals.specs.declared.PostError.TheVariants.{Fault, Memory};
+ghost use Rattle.refusals.specs.Posting.{frame_error, line_error};
 ghost use Rattle.refusals.specs.Reports.{refusal, post_report, plan_report, frame_report, line_report, file_report};
 
 use std::alloc::{AllocError, AllocFailed};
@@ -214,6 +218,40 @@ impl From<PlanFault> for FrameFault {
     }
 }
 
+// Why a frame was not carried out: a fault, or want of memory, which is no fault and has no number.
+#[derive(Clone, Copy, PartialEq, Eq, Debug)]
+pub enum FrameError {
+    Fault(FrameFault),
+    Memory,
+}
+
+impl From<FrameFault> for FrameError {
+    ghost from_gives = { λ fault r. r ≡ frame.Fault fault };
+
+    fn from(fault: FrameFault) -> FrameError {
+        FrameError::Fault(fault)
+    }
+}
+
+impl From<PostFault> for FrameError {
+    ghost from_gives = { λ fault r. r ≡ frame.Fault (Post fault) };
+
+    fn from(fault: PostFault) -> FrameError {
+        FrameError::Fault(FrameFault::Post(fault))
+    }
+}
+
+impl From<PostError> for FrameError {
+    ghost from_gives = { λ e r. r ≡ frame_error e };
+
+    fn from(e: PostError) -> FrameError {
+        match e {
+            PostError::Fault(fault) => FrameError::Fault(FrameFault::Post(fault)),
+            PostError::Memory => FrameError::Memory,
+        }
+    }
+}
+
 // Why a line is turned down.
 #[derive(Clone, Copy, PartialEq, Eq, Debug)]
 pub enum LineFault {
@@ -242,6 +280,32 @@ impl From<FrameFault> for LineFault {
 
     fn from(fault: FrameFault) -> LineFault {
         LineFault::Frame(fault)
+    }
+}
+
+// Why a line was not carried out: a fault, or want of memory.
+#[derive(Clone, Copy, PartialEq, Eq, Debug)]
+pub enum LineError {
+    Fault(LineFault),
+    Memory,
+}
+
+impl From<LineFault> for LineError {
+    ghost from_gives = { λ fault r. r ≡ line.Fault fault };
+
+    fn from(fault: LineFault) -> LineError {
+        LineError::Fault(fault)
+    }
+}
+
+impl From<FrameError> for LineError {
+    ghost from_gives = { λ e r. r ≡ line_error e };
+
+    fn from(e: FrameError) -> LineError {
+        match e {
+            FrameError::Fault(fault) => LineError::Fault(LineFault::Frame(fault)),
+            FrameError::Memory => LineError::Memory,
+        }
     }
 }
 
