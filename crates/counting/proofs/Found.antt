@@ -1,13 +1,12 @@
 -- What a family answers by whether it has the rule, and whether the workspace suffices.
-use Rattle.std.proofs.Common.{◌≡◌, ℕ, ◌+◌, ◌<◌, ◌≤◌, Bool, true, false, cond, ltb, leb, ◌⊎◌, List, map, length, get_or, None, vec_items, Option, sym, refl, ap, ◌∙◌, subst, ap₂, ⊎_elim, arith}
+use Rattle.std.proofs.Common.{◌≡◌, ℕ, ◌+◌, ◌<◌, ◌≤◌, Bool, true, false, cond, ltb, leb, List, map, length, get_or, None, vec_items, sym, refl, ap, ◌∙◌, subst, ap₂, arith}
 use Rattle.std.proofs.lemmas.List.{get_or-map, get_or_past, length-map}
-use Rattle.std.proofs.lemmas.Bool.{lt-ltb, le-ltb, le-leb, lt-leb, cases_lt}
+use Rattle.std.proofs.lemmas.Bool.{lt-ltb, le-ltb, le-leb, lt-leb}
 use Rattle.automata.specs.Automaton.{Automaton}
 use Rattle.masks.specs.Members.{lost}
 use Rattle.masks.proofs.Counting.{lost_nothing}
 use Rattle.families.specs.Masks.{values_lost}
 use Rattle.families.proofs.Losses.{values_lost_none}
-use Rattle.measures.specs.declared.Figures.{Figures}
 use Rattle.sweeps.specs.Figures.{figures_of}
 use Rattle.families.specs.Meaning as families
 use Rattle.families.specs.Meaning.{Meaning, Left, workspace_needed, when_able, ran, figured, start_of}

@@ -6,7 +6,6 @@ use Rattle.std.proofs.lemmas.Bool.{cond-true, cond-false, lt-ltb, le-ltb}
 use Rattle.automata.specs.Automaton as automata
 use Rattle.automata.specs.Automaton.{Automaton}
 use Rattle.families.specs.Laws.{LawfulRule, Lawful}
-use Rattle.families.specs.Meaning as families
 use Rattle.families.specs.Meaning.{Meaning, pair}
 use Rattle.families.specs.Pairs.{pair_each}
 use Rattle.rules.specs.declared.Rule.{Rule}

@@ -7,6 +7,7 @@
 // rule's meaning says; and every at-most or at-least rule keeps only what a sequence uses, alone and
 // in pairs.
 #![tactic(auto)]
+
 ghost use Rattle.std.specs.Prelude.{◌≡◌, ℕ, ◌+◌, ◌<◌, ◌≤◌, min, true, [], length, None, MatchResult};
 ghost use Rattle.families.specs.Meaning.{workspace_needed, most_rules, pair as paired};
 ghost use Rattle.sweeps.specs.Figures.{figures_of};

@@ -3,6 +3,7 @@
 // that fail, marks and goes back, shows that a failed try leaves everything as it was, publishes,
 // and then makes the same decisions in another order and shows that all is the same.
 #![tactic(auto)]
+
 use anyhow::anyhow;
 use automata::Among;
 use counting::Counting;

@@ -1,5 +1,5 @@
 -- What a family of rules means. A rule is a constraint: it allows some fillings of its cells and its tally.
-use Rattle.std.specs.Prelude.{ℕ, ◌+◌, ◌-◌, ◌≤◌, min, Bool, cond, List, None, Option, nat_le, nat_lt}
+use Rattle.std.specs.Prelude.{ℕ, ◌+◌, ◌-◌, min, Bool, cond, List, None, Option, nat_le, nat_lt}
 use Rattle.measures.specs.declared.Figures.{Figures}
 
 -- what a run leaves of all cells and of the rule's own tally

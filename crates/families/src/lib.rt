@@ -7,6 +7,7 @@
 // call refuses: outside a family's numbers, or on a workspace that is too short, nothing is removed,
 // there are no figures, and the workspace is left alone.
 #![tactic(auto)]
+
 ghost use Rattle.std.specs.Prelude.{◌≡◌, ℕ, ◌+◌, ◌<◌, ◌≤◌, ◌⊎◌, length, MatchResult};
 ghost use Rattle.masks.specs.Members.{lost};
 ghost use Rattle.refusals.specs.declared.PostFault.TheVariants.{TooManyRules};

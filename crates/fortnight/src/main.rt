@@ -2,6 +2,7 @@
 // still open there (F free, E early, L late, N night, S standby). For each of a few patterns the
 // program prints how few and how many of it there can still be, and which numbers can be reached.
 #![tactic(auto)]
+
 use anyhow::anyhow;
 use automata::{Among, CounterAutomaton, Map, Table};
 use refusals::PostFault;

@@ -4,7 +4,6 @@ use lib.Count.{count_trailing_zeros}
 use Rattle.std.proofs.lemmas.List.{length-map, length-set, get_or-map, get_or_past, get_or-set_same, get_or-set_other}
 use Rattle.std.proofs.lemmas.Bool.{cases_Bool, cases_eq, cases_lt}
 use Rattle.masks.specs.Bit.{In}
-use Rattle.masks.proofs.Lowest.{lowest}
 use Rattle.automata.specs.Reading.{total}
 use Rattle.families.specs.Masks.{OneOf}
 use Rattle.families.specs.Meaning.{Meaning}

@@ -1,5 +1,5 @@
 -- The law over every history of a plan.
-use Rattle.std.specs.Prelude.{◌≡◌, ℕ, ◌^◌, ◌<◌, ◌≤◌, Bool, true, false, List, [], ◌∷◌, length, slice_index, slice_index_or}
+use Rattle.std.specs.Prelude.{◌≡◌, ℕ, ◌^◌, ◌<◌, ◌≤◌, true, List, [], ◌∷◌, length, slice_index, slice_index_or}
 use Rattle.masks.specs.Bit.{In}
 use Rattle.families.specs.Masks.{OneOf}
 use Rattle.families.specs.Meaning.{Meaning, workspace_needed}

@@ -1,10 +1,9 @@
 -- How many members a mask has, and how many of them another mask lacks.
-use Rattle.std.proofs.Common.{◌≡◌, ℕ, zero, suc, ◌+◌, ◌-◌, ◌*◌, ◌/◌, ◌%◌, ◌^◌, ◌<◌, ◌≤◌, min, Bool, true, false, cond, not, ◌&&◌, eqb, ◌⊎◌, List, [], ◌∷◌, ◌++◌, length, sym, refl, ap, ◌∙◌, subst, ap₂, inl, inr, ⊎_elim, mod-lt, mod-eq_of_lt, one-add, arith, length-append, pow_pos}
+use Rattle.std.proofs.Common.{◌≡◌, ℕ, zero, suc, ◌+◌, ◌-◌, ◌*◌, ◌%◌, ◌^◌, ◌<◌, ◌≤◌, min, Bool, true, false, cond, not, ◌&&◌, eqb, ◌⊎◌, List, [], ◌∷◌, ◌++◌, length, sym, refl, ap, ◌∙◌, subst, ap₂, inl, inr, ⊎_elim, mod-lt, mod-eq_of_lt, one-add, arith, length-append, pow_pos}
 use native.Mathlib.Nat.{mod-one}
 use lib.Bits.{bit_and}
 use lib.Count.{ones, ones_cat}
 use lib.Pow.{mod-pow-add}
-use Rattle.std.proofs.lemmas.Bool.{cases_eq, cases_lt}
 use Rattle.masks.specs.Bit.{bit, has, In}
 use Rattle.masks.specs.Members.{members, lost}
 use Rattle.masks.proofs.Bits.{bit_lt, bit-bit_and, bit_not, bit_past}

@@ -1,5 +1,5 @@
 -- The members of a mask as a list.
-use Rattle.std.specs.Prelude.{ℕ, zero, suc, Bool, cond, not, ◌&&◌, List, [], ◌∷◌, ◌++◌, length}
+use Rattle.std.specs.Prelude.{ℕ, zero, suc, cond, not, ◌&&◌, List, [], ◌∷◌, ◌++◌}
 use Rattle.masks.specs.Bit.{has}
 
 -- the members below n, in ascending order

@@ -4,6 +4,7 @@
 //
 // Each function answers for every input: a number past the width is no member.
 #![tactic(auto)]
+
 ghost use Rattle.std.specs.Prelude.{◌≡◌, ℕ, cond, [], ◌∷◌, length, Decides, MatchOption};
 ghost use Rattle.std.specs.Int.Count.{ones};
 ghost use Rattle.masks.specs.Bit.{bit, has, Within};

@@ -1,11 +1,10 @@
 -- The three measures: least total, greatest total, set of totals.
-use Rattle.std.specs.Prelude.{◌≡◌, refl, Bool, true, false, cond, ◌⊎◌, ℕ, zero, suc, ◌+◌, ◌-◌, ◌*◌, ◌/◌, ◌%◌, ◌^◌, ◌<◌, ◌≤◌, min, max}
-use Rattle.std.proofs.Common.{sym, ap, ◌∙◌, inl, inr, ⊎_elim, mod-eq_of_lt, mul_assoc, mod-lt, add-zero, div-add-mod', mul_comm, add-mul, mul-one, zero-mul, arith, pow-add, pow_pos}
-use Rattle.std.proofs.Math.Nat.{add-mul-mod_self_right, mul-add-mod_self_right, mul-mod_left}
+use Rattle.std.specs.Prelude.{◌≡◌, refl, ℕ, zero, suc, ◌+◌, ◌-◌, ◌*◌, ◌/◌, ◌%◌, ◌^◌, ◌<◌, ◌≤◌, min, max}
+use Rattle.std.proofs.Common.{sym, ap, ◌∙◌, mod-eq_of_lt, mul_assoc, mod-lt, add-zero, div-add-mod', mul_comm, add-mul, mul-one, zero-mul, arith, pow-add, pow_pos}
+use Rattle.std.proofs.Math.Nat.{add-mul-mod_self_right, mul-mod_left}
 use Rattle.std.specs.Int.Bits.{bit_or, or_self}
 use Rattle.std.proofs.lemmas.Nat.{or_comm, or_block, or_mod}
 use Rattle.masks.proofs.Bits.{same_bits, bit-bit_or}
-use Rattle.masks.specs.Bit.{bit}
 use Rattle.measures.specs.Measuring.{Measuring, Laws, Idempotent}
 
 -- the largest code

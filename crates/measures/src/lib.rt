@@ -6,6 +6,7 @@
 //
 // Each measure proves the laws of a measure, and that its codes say what its name says.
 #![tactic(auto)]
+
 ghost use Rattle.std.specs.Prelude.{◌≡◌};
 ghost use Rattle.measures.specs.Measuring.{Measuring, Laws, Idempotent};
 ghost use Rattle.measures.specs.Kinds.{least, least_laws, least_idempotent, greatest, greatest_laws, greatest_idempotent, totals, totals_laws, totals_idempotent};

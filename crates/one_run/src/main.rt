@@ -7,6 +7,7 @@
 // late-early) and the counts that are open. For each rule the program prints what one run over all
 // the days removes from the days as they were read, duty by duty and count by count.
 #![tactic(auto)]
+
 use anyhow::anyhow;
 use automata::{Among, CounterAutomaton};
 use refusals::PostError;

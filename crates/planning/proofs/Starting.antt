@@ -1,5 +1,5 @@
 -- The start of a plan, from what settling leaves.
-use Rattle.std.proofs.Common.{◌≡◌, ℕ, zero, suc, true, false, List, [], get_or, replicate, Some, sym, refl, subst}
+use Rattle.std.proofs.Common.{◌≡◌, ℕ, zero, suc, false, List, [], get_or, replicate, Some, sym, refl, subst}
 use Rattle.families.specs.Meaning.{Meaning}
 use Rattle.families.specs.Laws.{Lawful}
 use Rattle.settling.specs.Masks.{Masks}

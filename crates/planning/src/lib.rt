@@ -7,4 +7,5 @@
 // plan shows before the call, it shows the log after it (`Called`). Refused calls and failed tries
 // change nothing in the plan, and refused ones nothing in the lent workspace.
 #![tactic(auto)]
+
 pub mod plan;

@@ -4,6 +4,7 @@
 // crate `histories`), for every draft, every family and every list of calls, refused and failed ones
 // left in. A program that makes its calls itself has it step by step, from each call's own contract.
 #![tactic(auto)]
+
 ghost use Rattle.std.specs.Prelude.{◌≡◌, ℕ, ◌<◌, ◌≤◌, min, map, length, take, slice_index_or};
 ghost use Rattle.families.specs.Meaning.{workspace_needed};
 ghost use Rattle.histories.specs.Calls.{Answer as LawAnswer};

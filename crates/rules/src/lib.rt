@@ -3,6 +3,7 @@
 // Each is checked once, where it is made, and what is made keeps in its type what was checked. (What
 // a rule counts is its automaton, which the family holds; what a run does is in the crate `runs`.)
 #![tactic(auto)]
+
 ghost use Rattle.std.specs.Prelude.{◌≡◌, ℕ, ◌^◌, ◌<◌, ◌≤◌, min, length, MatchOption, MatchResult, slice_index};
 ghost use Rattle.refusals.specs.declared.PostFault.TheVariants.{EmptyTally};
 ghost use Rattle.refusals.specs.First.{First};

@@ -3,7 +3,7 @@ use Rattle.std.proofs.Common.{◌≡◌, ℕ, ◌+◌, ◌-◌, ◌*◌, ◌<◌
 use Rattle.std.proofs.lemmas.List.{take_all}
 use Rattle.std.proofs.lemmas.Bool.{cases_eq, eq-eqb, ne_eqb}
 use Rattle.automata.specs.Automaton.{Automaton, Lawful}
-use Rattle.automata.specs.Reading.{end, total}
+use Rattle.automata.specs.Reading.{total}
 use Rattle.measures.specs.Measuring.{Measuring}
 use Rattle.measures.specs.Kinds.{least, least_laws, greatest, greatest_laws, top}
 use Rattle.rules.specs.declared.Sense.{Sense}

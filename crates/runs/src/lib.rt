@@ -7,6 +7,7 @@
 // count; under exactly, a duty stays just if an open count is in the interval of some state, and a
 // count if it is in that of some end state. The answer is the number of values that went.
 #![tactic(auto)]
+
 ghost use Rattle.std.specs.Prelude.{◌≡◌, ℕ, ◌+◌, ◌-◌, ◌*◌, ◌^◌, ◌<◌, ◌≤◌, min, false, length, take, if◌then◌else◌, Decides, MatchResult, nat_eq, slice_index};
 ghost use Rattle.masks.specs.Bit.{In, has};
 ghost use Rattle.masks.specs.Members.{lost};

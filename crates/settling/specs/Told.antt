@@ -3,7 +3,6 @@ use Rattle.std.specs.Prelude.{◌≡◌, ℕ, ◌<◌, List, length}
 use Rattle.refusals.specs.declared.PlanFault.{PlanFault}
 use Rattle.refusals.specs.declared.PlanFault.TheVariants.{Workspace}
 use Rattle.families.specs.Meaning.{Meaning, workspace_needed}
-use Rattle.settling.specs.declared.Failure.{Failure}
 use Rattle.settling.specs.declared.Settled.{Settled}
 use Rattle.settling.specs.declared.Settled.TheVariants.{Well, Failed}
 use Rattle.settling.specs.declared.Spot.{Spot}

@@ -7,6 +7,7 @@
 // no rule removes anything, and fails exactly where these have an empty one; and it makes at most
 // rules * (1 + values) runs.
 #![tactic(auto)]
+
 ghost use Rattle.std.specs.Prelude.{◌≡◌, ℕ, ◌<◌, ◌≤◌, true, length, MatchOption, MatchResult, slice_index};
 ghost use Rattle.families.specs.Meaning.{workspace_needed};
 ghost use Rattle.settling.specs.Masks.{masks};

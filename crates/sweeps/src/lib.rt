@@ -10,6 +10,7 @@
 // codes held before; the figures are the smallest and the largest total of any sequence, and all
 // totals below 64; short codes are refused and left as they were.
 #![tactic(auto)]
+
 ghost use Rattle.std.specs.Prelude.{◌≡◌, ℕ, ◌+◌, ◌*◌, ◌<◌, ◌≤◌, length, Decides, MatchResult, slice_index};
 ghost use Rattle.sweeps.specs.Figures.{FiguresTold};
 ghost use Rattle.sweeps.specs.Place.{Neutral, passed, pushed, pulled};

@@ -1,5 +1,5 @@
 -- How a line's buffer grows.
-use Rattle.std.proofs.Common.{◌≡◌, ℕ, ◌<◌, ◌≤◌, List, [], ◌∷◌, ◌++◌, length, take, sym, ap, ◌∙◌, subst, append_assoc, append-nil}
+use Rattle.std.proofs.Common.{◌≡◌, ℕ, ◌<◌, List, [], ◌∷◌, ◌++◌, length, take, sym, ap, ◌∙◌, subst, append_assoc, append-nil}
 use Rattle.wire.specs.Lines.{pushed, pushed_first, short_is_whole, long_stays_long, Grown}
 
 grown : (before after part : List ℕ) → ((line : List ℕ) → before ≡ take 517 line → after ≡ take 517 (line ++ part)) → Grown before after part

@@ -1,5 +1,5 @@
 -- What a frame and a line are read as, and what is refused of them.
-use Rattle.std.specs.Prelude.{◌≡◌, ℕ, ◌≤◌, Bool, true, false, List, length, drop, Some, None, Ok, Err, Result, slice_index}
+use Rattle.std.specs.Prelude.{◌≡◌, ℕ, ◌≤◌, Bool, List, length, drop, Some, None, Ok, Err, Result, slice_index}
 use Rattle.refusals.specs.declared.FileFault.{FileFault}
 use Rattle.refusals.specs.declared.FrameFault.{FrameFault}
 use Rattle.refusals.specs.declared.FrameFault.TheVariants as faults

@@ -8,6 +8,7 @@
 // Proved: every line has one answer, and it says exactly what the line spells or why it is refused.
 // `at_line` adds the line's number to a refusal.
 #![tactic(auto)]
+
 pub mod digits;
 pub mod frame;
 pub mod kind;

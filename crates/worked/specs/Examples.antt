@@ -1,5 +1,5 @@
 -- Worked examples, a row each, and that they all hold.
-use Rattle.std.specs.Prelude.{◌≡◌, ℕ, List, [], ◌∷◌, ◌++◌, length, replicate, Some}
+use Rattle.std.specs.Prelude.{◌≡◌, ℕ, List, [], ◌∷◌, length, replicate, Some}
 use Rattle.automata.specs.Automaton.{Automaton}
 use Rattle.automata.specs.Reading.{total}
 use Rattle.automata.specs.Kinds.{table}

@@ -2,6 +2,7 @@
 // by hand, and one statement says that all of them hold of the definitions that the contracts use.
 // To add a row, write it into `examples` in specs/Examples.antt and a `refl` into the proof.
 #![tactic(auto)]
+
 ghost use Rattle.std.specs.Prelude.{◌≡◌, length};
 ghost use Rattle.worked.specs.Examples.{examples, AllHold};
 

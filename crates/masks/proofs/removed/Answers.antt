@@ -1,5 +1,5 @@
-use Rattle.std.proofs.Common.{◌-◌, ◌^◌, ◌<◌, sym, arith}
-use lib.Bits.{bit_and, and_le_l}
+use Rattle.std.proofs.Common.{◌-◌, ◌^◌, sym, arith}
+use lib.Bits.{and_le_l}
 use Rattle.masks.proofs.Counting.{length_lost}
 use Rattle.masks.proofs.removed.Goals as goal
 

@@ -1,4 +1,4 @@
-use Rattle.std.proofs.Common.{ℕ, ◌+◌, length, sym, ap, ap₂, arith, rules}
+use Rattle.std.proofs.Common.{ℕ, ◌+◌, length, sym, ap, ap₂, rules}
 use Rattle.masks.proofs.Counting.{lost_nothing}
 use Rattle.families.proofs.Losses.{values_lost_none}
 use Rattle.families.proofs.PairFamily.run.Goals as goal

@@ -1,4 +1,4 @@
-use Rattle.std.proofs.Common.{get_or, arith, below_more}
+use Rattle.std.proofs.Common.{get_or, below_more}
 use Rattle.wire.proofs.Values.{digit_from_value, no_digit_from_none, not_both}
 use Rattle.wire.proofs.digits.first_wrong.Goals as goal
 

@@ -1,4 +1,4 @@
-use Rattle.std.proofs.Common.{◌≡◌, ℕ, ◌^◌, ◌<◌, true, length, get_or, arith, rules}
+use Rattle.std.proofs.Common.{◌≡◌, ℕ, ◌^◌, ◌<◌, length, get_or, arith, rules}
 use Rattle.settling.specs.Masks.{masks}
 use Rattle.settling.specs.Rounds.{well, fails, Settles}
 use Rattle.settling.specs.Told.{place_of}

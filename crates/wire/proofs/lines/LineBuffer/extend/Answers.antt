@@ -1,4 +1,4 @@
-use Rattle.std.proofs.Common.{ℕ, List, length, get_or, take, sym, subst, arith, below_more}
+use Rattle.std.proofs.Common.{get_or, take, sym, subst, arith, below_more}
 use Rattle.std.proofs.lemmas.List.{take_more, take_all}
 use Rattle.wire.specs.Lines.{Grown}
 use Rattle.wire.proofs.Growing.{grown_none, grown_more}
