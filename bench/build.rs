@@ -11,11 +11,10 @@ fn kit_archives() -> PathBuf {
         .expect("rt is on the path");
     let guide = String::from_utf8(guide.stdout).expect("a path");
     let kit = PathBuf::from(guide.trim())
-        .ancestors()
-        .nth(2)
+        .parent()
         .expect("a kit")
         .to_path_buf();
-    kit.join("lib")
+    kit.join("c")
 }
 
 fn main() {
@@ -24,7 +23,7 @@ fn main() {
         return;
     }
     let here = PathBuf::from(std::env::var_os("CARGO_MANIFEST_DIR").expect("set by cargo"));
-    let archives = here.join("../target/staticlib");
+    let archives = here.join("../crates/bench_exports/out");
     println!(
         "cargo:rerun-if-changed={}",
         archives.join("libbench_exports.a").display()

@@ -1,5 +1,6 @@
 // What a reader would try first, as tests that are proved and then run.
 #![tactic(auto)]
+
 #[cfg(test)]
 mod tests {
     use automata::{Among, CounterAutomaton, Map, Table};

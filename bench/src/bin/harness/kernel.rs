@@ -158,7 +158,8 @@ unsafe extern "C" {
 }
 
 // What the kernel's allocator calls.
-#[link(name = "rattle_c", kind = "static")]
+#[link(name = "os_c", kind = "static")]
+#[link(name = "libc_c", kind = "static")]
 unsafe extern "C" {}
 
 fn fields_of(family: Family, rule: &Rule) -> RuleFields {
