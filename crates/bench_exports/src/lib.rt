@@ -5,6 +5,7 @@
 // Proved: every function is safe and returns, whatever numbers it is given. A call whose automaton or
 // rules are refused does nothing and answers `false` or 0.
 #![tactic(auto)]
+
 pub mod fields;
 pub mod many_runs;
 pub mod many_sweeps;

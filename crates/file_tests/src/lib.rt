@@ -1,6 +1,7 @@
 // Files that are refused, line by line, as tests: a program that stops at a fault ends with status 1,
 // and the gate runs only programs that end well.
 #![tactic(auto)]
+
 #[cfg(test)]
 mod tests {
     use interpreter::file::{FilePlan, Told};
