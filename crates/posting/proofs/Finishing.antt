@@ -1,5 +1,5 @@
 -- What a file's draft comes to: the family of its sheet.
-use Rattle.std.proofs.Common.{◌≡◌, ℕ, zero, suc, List, [], ◌∷◌, map, length, get_or, vec_items, unwrap_or, sym, refl, ap, ◌∙◌, ⊎_elim, arith}
+use Rattle.std.proofs.Common.{◌≡◌, ℕ, zero, suc, List, [], ◌∷◌, map, get_or, vec_items, unwrap_or, refl, ap, ◌∙◌, ⊎_elim, arith}
 use Rattle.std.proofs.lemmas.List.{length-map}
 use Rattle.refusals.specs.declared.PostFault.{PostFault}
 use Rattle.automata.specs.Automaton.{Automaton}
@@ -12,7 +12,7 @@ use Rattle.words.specs.declared.Word.{Word}
 use Rattle.words.specs.Faults.{WordFault, wrong_length, no_duty}
 use Rattle.families.specs.Meaning.{Meaning, pair}
 use Rattle.rules.specs.declared.Rule.{Rule}
-use Rattle.counting.specs.Family.{family_of, rule_of, no_rule}
+use Rattle.counting.specs.Family.{family_of, rule_of}
 use Rattle.counting.specs.declared.Counting.{Counting}
 use Rattle.posting.specs.Sheets.{Sheet, Written, written, duties_of}
 use Rattle.posting.specs.Families.{written_rule, written_family, own_classes, blank_steps, rules_meaning, meaning_of}

@@ -1,10 +1,10 @@
 -- Posting: how a sheet changes, and why a frame is refused.
-use Rattle.std.proofs.Common.{◌≡◌, ℕ, ◌+◌, ◌<◌, ◌≤◌, min, Bool, true, false, ◌⊎◌, List, [], ◌∷◌, ◌++◌, map, length, is_some, Some, None, Ok, Err, vec_items, Option, Result, sym, refl, ap, ◌∙◌, subst, inl, inr, ⊎_elim, arith, Bor, MatchResult}
+use Rattle.std.proofs.Common.{◌≡◌, ℕ, ◌+◌, ◌<◌, ◌≤◌, min, Bool, true, List, [], ◌∷◌, ◌++◌, map, length, is_some, Some, None, Ok, Err, vec_items, Option, Result, sym, refl, ap, ◌∙◌, subst, inl, ⊎_elim, arith, Bor, MatchResult}
 use Rattle.std.proofs.lemmas.List.{length-map}
 use Rattle.refusals.specs.declared.PostError.{PostError}
 use Rattle.refusals.specs.declared.PostError.TheVariants.{Fault, Memory}
 use Rattle.refusals.specs.declared.PostFault.{PostFault}
-use Rattle.refusals.specs.Posting.{Refusing, frame-fault}
+use Rattle.refusals.specs.Posting.{Refusing, frame_error}
 use Rattle.rules.specs.declared.Row.{Row}
 use Rattle.rules.specs.declared.Rule.{Rule}
 use Rattle.rules.specs.declared.Sense.{Sense}
@@ -15,7 +15,7 @@ use Rattle.wire.specs.declared.frame.Frame.TheVariants as frame
 use Rattle.posting.specs.declared.counters.Counter.{Counter}
 use Rattle.posting.specs.Slots.{PostedIn, NotPostedIn, SlotFault, full}
 use Rattle.posting.specs.Sheets.{Sheet, Written, written, of_given}
-use Rattle.posting.specs.Posts.{MasksSet, NoMasks, no_range, no_duty, with_masks, with_rule, has, rules_of, RuleIs, RulePosted, RuleFault, no_row, no_room, NoRule, Refused, at_post, no_memory}
+use Rattle.posting.specs.Posts.{MasksSet, NoMasks, no_range, no_duty, with_masks, with_rule, has, rules_of, RuleIs, RulePosted, no_row, no_room, NoRule, Refused, at_post, no_memory}
 
 -- the automaton of a slot is given
 pub posted_in : (given : Bool) (rule : Rule) (old new : List Rule) (r : Result (Unit {0}) PostError) → given ≡ true
@@ -78,6 +78,6 @@ rule_posted automaton sense tally cells s t k z rule given old new (Err Memory) 
 
 -- the same, told of its frame
 pub rule_refused : (automaton sense tally : ℕ) (cells : Bor (List ℕ)) (s : Sheet) (e : PostError) → NoRule automaton sense tally cells.now s e
-    → Refused (frame.Rule automaton sense tally cells) s (frame-fault e)
+    → Refused (frame.Rule automaton sense tally cells) s (frame_error e)
 rule_refused automaton sense tally cells s (Fault f) h = at_post f h
 rule_refused automaton sense tally cells s Memory h = no_memory h

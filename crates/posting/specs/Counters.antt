@@ -1,5 +1,5 @@
 -- The numbers of the kinds of automaton.
-use Rattle.std.specs.Prelude.{◌≡◌, ℕ, ◌≢◌}
+use Rattle.std.specs.Prelude.{ℕ, ◌≢◌}
 use Rattle.refusals.specs.declared.PostFault.{PostFault}
 use Rattle.refusals.specs.declared.PostFault.TheVariants as fault
 use Rattle.posting.specs.declared.counters.Counter.{Counter}

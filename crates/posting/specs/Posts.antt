@@ -1,11 +1,11 @@
 -- What each frame before the start posts, and when it is refused.
-use Rattle.std.specs.Prelude.{◌≡◌, ℕ, ◌+◌, ◌<◌, ◌≤◌, Bool, true, false, ◌⊎◌, List, [], ◌∷◌, ◌++◌, length, is_some, Some, None, Option, slice_index}
+use Rattle.std.specs.Prelude.{◌≡◌, ℕ, ◌+◌, ◌<◌, ◌≤◌, Bool, true, ◌⊎◌, List, [], ◌∷◌, ◌++◌, length, is_some, Some, None, Option, slice_index}
 use Rattle.refusals.specs.declared.PostError.{PostError}
-use Rattle.refusals.specs.declared.PostError.TheVariants as error
 use Rattle.refusals.specs.declared.PostFault.{PostFault}
 use Rattle.refusals.specs.declared.PostFault.TheVariants.{Range, EmptyMask, GivenBefore, EmptyTally}
-use Rattle.refusals.specs.declared.FrameFault.{FrameFault}
 use Rattle.refusals.specs.declared.FrameFault.TheVariants as fault
+use Rattle.refusals.specs.declared.FrameError.{FrameError}
+use Rattle.refusals.specs.declared.FrameError.TheVariants.{Fault, Memory}
 use Rattle.refusals.specs.Posting.{Refusing}
 use Rattle.automata.specs.Faults.{TableFault, ClassFault}
 use Rattle.automata.specs.Kinds.{GoodTable}
@@ -22,7 +22,7 @@ use Rattle.posting.specs.declared.drafting.Drafted.{Drafted}
 use Rattle.posting.specs.declared.drafting.Drafted.TheVariants.{Posted, Start}
 use Rattle.posting.specs.Counters.{counter_number, CounterFault}
 use Rattle.posting.specs.Slots.{SlotFault}
-use Rattle.posting.specs.Sheets.{Sheet, Written, Steps}
+use Rattle.posting.specs.Sheets.{Sheet, Written}
 
 -- the sheet with other masks
 abbrev pub with_masks : List ℕ → Sheet → Sheet
@@ -195,7 +195,7 @@ pub data NoDraft : Frame → Type 0 where
   publish : NoDraft frame.Publish
 
 -- why a frame is not carried out on a draft
-pub data Refused (f : Frame) (s : Sheet) : FrameFault → Type 0 where
-  at_post : (e : PostFault) → NoPost f s e → Refused f s (fault.Post e)
-  out_of_order : NoDraft f → Refused f s fault.Order
-  no_memory : TakesMemory f s → Refused f s fault.Memory
+pub data Refused (f : Frame) (s : Sheet) : FrameError → Type 0 where
+  at_post : (e : PostFault) → NoPost f s e → Refused f s (Fault (fault.Post e))
+  out_of_order : NoDraft f → Refused f s (Fault fault.Order)
+  no_memory : TakesMemory f s → Refused f s Memory

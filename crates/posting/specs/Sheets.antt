@@ -1,11 +1,9 @@
 -- What a file has posted, in the words of the file.
-use Rattle.std.specs.Prelude.{◌≡◌, ℕ, ◌*◌, List, [], ◌∷◌, ◌++◌, map, length, take, replicate, Some, None, vec_items, Option}
+use Rattle.std.specs.Prelude.{ℕ, ◌*◌, List, [], map, take, replicate, Some, None, vec_items, Option}
 use Rattle.automata.specs.declared.Among.{Among}
 use Rattle.words.specs.declared.Word.{Word}
 use Rattle.rules.specs.declared.Rule.{Rule}
 use Rattle.rules.specs.declared.Sense.{Sense}
-use Rattle.posting.specs.declared.counters.Counter.{Counter}
-use Rattle.posting.specs.declared.counters.Counter.TheVariants as counter
 use Rattle.posting.specs.declared.kept.KeptTable.{KeptTable}
 use Rattle.posting.specs.declared.drafting.FileDraft.{FileDraft}
 

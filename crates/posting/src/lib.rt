@@ -7,6 +7,7 @@
 // There are three kinds of automaton, and at most one of each. Rules are kept beside the kind that they
 // count with until `finish`, since a map over the word may still come, and is for all its rules.
 #![tactic(auto)]
+
 pub mod counters;
 pub mod drafting;
 pub mod kept;

@@ -8,7 +8,7 @@ ghost use Rattle.posting.specs.Posts.{RulePosted, NoRule, Taken, Refused};
 
 use super::{Drafted, FileDraft};
 use crate::counters::Counter;
-use refusals::{FrameFault, PostError, PostFault};
+use refusals::{FrameError, FrameFault, PostError, PostFault};
 use rules::{Row, Rule, Sense};
 use std::alloc::Global;
 use wire::frame::Frame;
@@ -37,7 +37,7 @@ impl FileDraft {
     }
 
     // Carries a frame out. One that may not come before the start is out of order.
-    pub fn take(&mut self, heap: Global, frame: Frame) -> Result<Drafted, FrameFault>
+    pub fn take(&mut self, heap: Global, frame: Frame) -> Result<Drafted, FrameError>
         ensures { MatchResult result (Taken frame.entry (sheet_of self.old) (sheet_of self.new)) (λ e. (sheet_of self.new ≡ sheet_of self.old) × Refused frame.entry (sheet_of self.old) e) }
     {
         match frame {
@@ -57,7 +57,7 @@ impl FileDraft {
                 cells,
             } => self.post_rule(heap, automaton, sense, tally, cells)?,
             Frame::Start => return Ok(Drafted::Start),
-            _ => return Err(FrameFault::Order),
+            _ => return Err(FrameError::Fault(FrameFault::Order)),
         }
         Ok(Drafted::Posted)
     }

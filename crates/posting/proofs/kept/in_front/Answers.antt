@@ -3,4 +3,4 @@ use Rattle.std.proofs.lemmas.List.{take_at}
 use Rattle.posting.proofs.kept.in_front.Goals as goal
 
 pub returns : goal.returns
-returns c = let same = c.copy-from-slice.ensures.after in take_at c.copy-from-slice.new.self _ (length c.args.bytes.now) (ap length same) ∙ same
+returns c = let same = c.copy_from_slice.ensures.after in take_at c.copy_from_slice.new.self _ (length c.args.bytes.now) (ap length same) ∙ same

@@ -4,8 +4,8 @@ use Rattle.posting.specs.declared.counters.Counter.{Counter}
 use Rattle.posting.specs.declared.counters.Counter.TheVariants.{Among, Word, Table}
 use Rattle.posting.proofs.counters.Counter.from_number.Goals as goal
 
-pub returns-in-default : goal.returns-in-default
-returns-in-default c = no_automaton none
+pub returns-in_default : goal.returns-in_default
+returns-in_default c = no_automaton none
   where
     none : (k : Counter) → counter_number k ≡ c.args.number → ⊥
     none Among e = omega (arith, e)
