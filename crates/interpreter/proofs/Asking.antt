@@ -1,9 +1,8 @@
 -- What a question answers.
-use Rattle.std.proofs.Common.{◌≡◌, ℕ, ◌<◌, ◌≤◌, Bool, true, false, cond, ◌⊎◌, length, get_or, Some, None, Ok, Err, Option, Result, sym, refl, ap, ◌∙◌, subst, inl, inr, ⊎_elim, arith}
+use Rattle.std.proofs.Common.{◌≡◌, ℕ, ◌<◌, ◌≤◌, cond, length, get_or, Some, None, Ok, Err, Option, Result, sym, refl, ap, ⊎_elim, arith}
 use Rattle.std.proofs.lemmas.Bool.{cases_lt}
 use Rattle.measures.specs.declared.Figures.{Figures}
 use Rattle.refusals.specs.declared.PlanFault.{PlanFault}
-use Rattle.refusals.specs.declared.PlanFault.TheVariants.{Rule}
 use Rattle.families.specs.Meaning.{Meaning, workspace_needed}
 use Rattle.histories.specs.Calls.{Answer, done, failed, level, holds, figures, refused, ask, of_cell, of_tally, of_figures}
 use Rattle.histories.specs.Plans.{View, Step}

@@ -1,7 +1,8 @@
 -- Frames one after the other: one more, and its place in the list.
-use Rattle.std.proofs.Common.{◌≡◌, ℕ, ◌+◌, ◌<◌, Bool, true, false, List, [], ◌∷◌, ◌++◌, length, get_or, take, set, vec_items, sym, refl, ap, ◌∙◌, subst, append_assoc, append-nil, arith}
+use Rattle.std.proofs.Common.{◌≡◌, ℕ, ◌+◌, ◌<◌, true, false, List, [], ◌∷◌, ◌++◌, length, get_or, take, set, vec_items, sym, refl, subst, append_assoc, append-nil, arith}
 use Rattle.std.proofs.lemmas.List.{take_more, take_more_set}
 use Rattle.refusals.specs.declared.FrameFault.{FrameFault}
+use Rattle.refusals.specs.declared.FrameError.{FrameError}
 use Rattle.automata.specs.declared.Among.{Among}
 use Rattle.automata.specs.declared.Map.{Map}
 use Rattle.automata.specs.declared.Table.{Table}
@@ -21,7 +22,7 @@ use Rattle.posting.specs.Families.{rules_meaning}
 use Rattle.posting.specs.Posts as posts
 use Rattle.posting.specs.Sheets.{Sheet, duties_of}
 use Rattle.interpreter.specs.declared.file.Told.{Told}
-use Rattle.interpreter.specs.Calls.{Decides, Tells, decides, beyond, decided, bounded, marked, backed, publishes, NoCall}
+use Rattle.interpreter.specs.Calls.{Tells, decides, beyond, decided, bounded, marked, backed, publishes, NoCall}
 use Rattle.interpreter.specs.Performing.{Drafts, NotPosted, Is, Are, Makes, is_call}
 
 drafts_more : (f : Frame) {s t u : Sheet} {fs : List Frame} → Drafts s fs t → posts.Posts f t u → Drafts s (fs ++ f ∷ []) u
@@ -110,7 +111,7 @@ pub makes_as : {m n : Meaning} {size cells w v : ℕ} {p q : View} {fs : List Fr
 makes_as {m} {n} {size} {cells} {w} {v} {p} {q} {fs} {ts} a b c h =
     subst (λ (x : ℕ). Makes n cells x p fs ts q) c (subst (λ (x : ℕ). Makes n x w p fs ts q) b (subst (λ (x : Meaning). Makes x size w p fs ts q) a h))
 
-pub not_posted_from : {s u t : Sheet} {fs : List Frame} {e : FrameFault} → s ≡ u → NotPosted s fs t e → NotPosted u fs t e
+pub not_posted_from : {s u t : Sheet} {fs : List Frame} {e : FrameError} → s ≡ u → NotPosted s fs t e → NotPosted u fs t e
 not_posted_from {s} {u} {t} {fs} {e} h n = subst (λ (x : Sheet). NotPosted x fs t e) h n
 
 pub drafts_from : {s u t : Sheet} {fs : List Frame} → s ≡ u → Drafts s fs t → Drafts u fs t

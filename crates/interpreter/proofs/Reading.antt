@@ -1,5 +1,5 @@
 -- The frames that may come to a running plan make calls.
-use Rattle.std.proofs.Common.{◌≡◌, ℕ, Bool, true, false, List, Some, None, Ok, Err, Option, Result, sym, refl, ap, ◌∙◌, arith}
+use Rattle.std.proofs.Common.{◌≡◌, ℕ, true, List, Some, None, Ok, Err, Option, Result, sym, refl, ap, ◌∙◌, arith}
 use Rattle.refusals.specs.declared.FrameFault.{FrameFault}
 use Rattle.refusals.specs.declared.PlanFault.{PlanFault}
 use Rattle.planning.specs.declared.plan.Try.{Try}

@@ -1,5 +1,5 @@
 -- What a frame after the start does: which call it makes, and what that leaves.
-use Rattle.std.specs.Prelude.{◌≡◌, ℕ, ◌<◌, ◌≤◌, Bool, true, false, List, Ok, Err, Result}
+use Rattle.std.specs.Prelude.{ℕ, ◌<◌, ◌≤◌, Bool, true, false, List, Ok, Err, Result}
 use Rattle.std.specs.Borrow.{Bor}
 use Rattle.refusals.specs.declared.PlanFault.{PlanFault}
 use Rattle.refusals.specs.declared.PlanFault.TheVariants.{Cell}

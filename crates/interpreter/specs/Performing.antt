@@ -2,8 +2,9 @@
 use Rattle.std.specs.Prelude.{◌≡◌, ℕ, ◌<◌, ◌≤◌, Bool, true, false, ◌⊎◌, List, [], ◌∷◌, ◌++◌, length, take, Ok, Err, Result, slice_index_or}
 use Rattle.refusals.specs.declared.PlanFault.{PlanFault}
 use Rattle.refusals.specs.declared.PlanFault.TheVariants.{Cell}
-use Rattle.refusals.specs.declared.FrameFault.{FrameFault}
 use Rattle.refusals.specs.declared.FrameFault.TheVariants.{Order, Cells}
+use Rattle.refusals.specs.declared.FrameError.{FrameError}
+use Rattle.refusals.specs.declared.FrameError.TheVariants.{Fault}
 use Rattle.families.specs.Meaning.{Meaning, workspace_needed}
 use Rattle.histories.specs.Decisions.{on_cell, on_tally}
 use Rattle.histories.specs.Calls as law
@@ -28,11 +29,11 @@ pub data Drafts : Sheet → List Frame → Sheet → Type 0 where
   more : (s t u : Sheet) (f : Frame) (fs : List Frame) → posts.Posts f s t → Drafts t fs u → Drafts s (f ∷ fs) u
 
 -- the frames before number k are posted, and that one is refused; a start is out of order here
-pub record NotPosted (s : Sheet) (fs : List Frame) (t : Sheet) (e : FrameFault) : Type 0 where
+pub record NotPosted (s : Sheet) (fs : List Frame) (t : Sheet) (e : FrameError) : Type 0 where
   pub k : ℕ
   pub inside : k < length fs
   pub before : Drafts s (take k fs) t
-  pub refused : posts.Refused (slice_index_or fs k (frame.Size 0)) t e ⊎ ((slice_index_or fs k (frame.Size 0) ≡ frame.Start) × (e ≡ Order))
+  pub refused : posts.Refused (slice_index_or fs k (frame.Size 0)) t e ⊎ ((slice_index_or fs k (frame.Size 0) ≡ frame.Start) × (e ≡ Fault Order))
 
 -- the frames that ask for a call
 abbrev pub is_call : Frame → Bool
@@ -90,9 +91,9 @@ pub record Performed (size w : ℕ) (before : List Frame) (st : Start) (after : 
   pub short : w < workspace_needed → (st ≡ Short) × Ran (meaning_of s) voided calls answers q
 
 -- the number of cells is none, or a frame before the start is refused
-pub data NotPerformed (size : ℕ) (before : List Frame) : FrameFault → Type 0 where
-  no_size : (size ≡ 0) ⊎ (193 ≤ size) → NotPerformed size before Cells
-  not_posted : (t : Sheet) (e : FrameFault) → NotPosted (new_sheet size) before t e → NotPerformed size before e
+pub data NotPerformed (size : ℕ) (before : List Frame) : FrameError → Type 0 where
+  no_size : (size ≡ 0) ⊎ (193 ≤ size) → NotPerformed size before (Fault Cells)
+  not_posted : (t : Sheet) (e : FrameError) → NotPosted (new_sheet size) before t e → NotPerformed size before e
 
 -- how many calls were made: none of a file that is refused before its start
 abbrev pub calls_made : {P S E : Type 0} → Result (P × S × ℕ) E → ℕ

@@ -8,6 +8,7 @@
 // Proved: which call each frame makes, with which arguments, and what it leaves; that a refused frame
 // changes nothing; and that the law over every history of a plan holds of every list of frames.
 #![tactic(auto)]
+
 pub mod file;
 pub mod perform;
 pub mod read;

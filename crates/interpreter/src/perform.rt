@@ -14,18 +14,18 @@ use crate::file::{FilePlan, Told};
 use planning::plan::Start;
 use posting::drafting::{Drafted, FileDraft};
 use posting::kept::KeptTable;
-use refusals::FrameFault;
+use refusals::{FrameError, FrameFault};
 use std::alloc::Global;
 use wire::frame::Frame;
 
 // Posts a list of frames, until one is refused. A start is out of order here.
-pub fn post_all(draft: &mut FileDraft, heap: Global, posts: &[Frame]) -> Result<(), FrameFault>
+pub fn post_all(draft: &mut FileDraft, heap: Global, posts: &[Frame]) -> Result<(), FrameError>
     ensures { MatchResult result (λ _. Drafts (sheet_of draft.old) posts.now (sheet_of draft.new)) (NotPosted (sheet_of draft.old) posts.now (sheet_of draft.new)) }
 {
     for frame in posts {
         match draft.take(heap, *frame)? {
             Drafted::Posted => {}
-            Drafted::Start => return Err(FrameFault::Order),
+            Drafted::Start => return Err(FrameError::Fault(FrameFault::Order)),
         }
     }
     Ok(())
@@ -78,7 +78,7 @@ pub fn perform<'a>(
     told: &mut [Told],
     room: &'a mut KeptTable,
     workspace: &mut [u64],
-) -> Result<(FilePlan<'a>, Start, usize), FrameFault>
+) -> Result<(FilePlan<'a>, Start, usize), FrameError>
     ensures beyond { (k : ℕ) (d : Told) → calls_made result ≤ k → slice_index_or told.new k d ≡ slice_index_or told.old k d }
     ensures performed { MatchResult result (λ x. Stops calls.now (length told.old) x.2 × Performed size (length workspace.old) posts.now x.1 (take x.2 calls.now) (take x.2 told.new) (view x.0.plan)) (NotPerformed size posts.now) }
 {

@@ -8,7 +8,7 @@ ghost use Rattle.interpreter.specs.Lines.{Opens, NotOpened, DraftLine, NoDraftLi
 
 use crate::file::{FilePlan, Told};
 use posting::drafting::{Drafted, FileDraft};
-use refusals::{FrameFault, LineFault};
+use refusals::{FrameFault, LineError, LineFault};
 use std::alloc::Global;
 use wire::digits::FrameBytes;
 use wire::frame::Frame;
@@ -29,7 +29,7 @@ pub fn open(heap: Global, line: Line) -> Result<FileDraft, LineFault>
 }
 
 // Carries out a line before the start.
-pub fn draft_line(draft: &mut FileDraft, heap: Global, line: Line) -> Result<Drafted, LineFault>
+pub fn draft_line(draft: &mut FileDraft, heap: Global, line: Line) -> Result<Drafted, LineError>
     ensures { MatchResult result (DraftLine line.entry.text.now line.entry.ended (sheet_of draft.old) (sheet_of draft.new)) (λ e. (sheet_of draft.new ≡ sheet_of draft.old) × NoDraftLine line.entry.text.now line.entry.ended (sheet_of draft.old) e) }
 {
     let mut bytes = FrameBytes::new();

@@ -1,12 +1,7 @@
-use Rattle.std.proofs.Common.{◌≡◌, ℕ, ◌<◌, true, length, get_or, take, sym, refl, ap, ◌∙◌, subst, arith}
+use Rattle.std.proofs.Common.{◌≡◌, ◌<◌, length, sym, refl, ap, ◌∙◌, arith}
 use Rattle.std.proofs.lemmas.List.{get_or-set_other}
-use Rattle.families.specs.Meaning.{Meaning}
-use Rattle.histories.specs.Plans.{View}
-use Rattle.planning.specs.Views.{view}
 use Rattle.posting.specs.Families.{rules_meaning}
 use Rattle.wire.specs.declared.frame.Frame.TheVariants as frame
-use Rattle.interpreter.specs.Calls.{Tells}
-use Rattle.interpreter.specs.Performing.{Makes}
 use Rattle.interpreter.proofs.Performing.{makes_none, makes_next, makes_at, tells_as, no_call_is_none, made_up_to}
 use Rattle.interpreter.proofs.perform.call_all.Goals as goal
 
@@ -30,19 +25,19 @@ loop-i-preserved c =
       same.0 ∙ inv.0,
       same.1 ∙ inv.1,
       makes_next _ _ _ fs c.loop-i.told i (frame.Size 0) _ _ _ _ in-calls in_told inv.2
-          (tells_as (ap rules_meaning inv.1) inv.0 c.loop-i.auto.workspace c.in-Ok.ensures.tells) (sym c.if-not-asks-call.ensures),
+          (tells_as (ap rules_meaning inv.1) inv.0 c.loop-i.auto.workspace c.in-Ok.ensures.tells) (sym c.if-not-asks_call.ensures),
       λ k d h. get_or-set_other c.loop-i.told i k _ d (λ e. omega arith) ∙ inv.3 k d (omega arith),
     )
 
-pub returns-then-not-asks-call : goal.returns-then-not-asks-call
-returns-then-not-asks-call c =
+pub returns-then-not-asks_call : goal.returns-then-not-asks_call
+returns-then-not-asks_call c =
     let inv = c.loop-i.invariant in
     record {
       same = (inv.0, inv.1);
       stops = record {
         in_list = omega (arith, c.loop-i-test.true, c.min-number.ensures);
         in_room = omega (arith, c.loop-i-test.true, c.min-number.ensures);
-        at_end = λ h k. sym c.if-not-asks-call.ensures;
+        at_end = λ h k. sym c.if-not-asks_call.ensures;
       };
       beyond = inv.3;
       made = inv.2;

@@ -1,4 +1,4 @@
-use Rattle.std.proofs.Common.{◌≡◌, ℕ, List, refl, ap, ◌∙◌, subst, rules}
+use Rattle.std.proofs.Common.{ℕ, List, ap, ◌∙◌, subst, rules}
 use Rattle.families.specs.Meaning.{Meaning}
 use Rattle.histories.specs.Plans.{Begun}
 use Rattle.planning.specs.Views.{view, started}

@@ -1,5 +1,4 @@
-use Rattle.std.proofs.Common.{◌≡◌, ℕ, ◌<◌, get_or, Ok, Err, Result, sym, refl, ap, ◌∙◌, arith}
-use Rattle.refusals.specs.declared.PlanFault.{PlanFault}
+use Rattle.std.proofs.Common.{sym, refl, ◌∙◌, arith}
 use Rattle.interpreter.proofs.Asking.{cell_answer, ok_is_not_err, ok_same}
 use Rattle.interpreter.proofs.file.FileRoster.cell.Goals as goal
 

@@ -1,4 +1,4 @@
-use Rattle.std.proofs.Common.{◌≡◌, ℕ, length, Ok, Err, Option, Result, refl, subst, inl, inr}
+use Rattle.std.proofs.Common.{ℕ, length, Option, Result, refl, subst, inl, inr}
 use Rattle.measures.specs.declared.Figures.{Figures}
 use Rattle.refusals.specs.declared.PlanFault.{PlanFault}
 use Rattle.histories.specs.Calls.{ask, of_tally, of_figures}
@@ -8,12 +8,12 @@ use Rattle.posting.specs.Families.{rules_meaning}
 use Rattle.interpreter.proofs.Asking.{tally_answer, tally_refused, figures_answer, figures_refused, some_is_not_none}
 use Rattle.interpreter.proofs.file.FileRoster.rule.Goals as goal
 
-pub returns-in-default : goal.returns-in-default
-returns-in-default c =
+pub returns-in_default : goal.returns-in_default
+returns-in_default c =
     let m = rules_meaning c.args.self.now.roster.family in
     let p = read c.args.self.now.roster in
     let r = c.args.rule in
-    record { left_alone = λ h. refl; told = inl (tally_refused m p r 0 c.in-default.field-0 (subst (λ (x : Result ℕ PlanFault). Step m p (ask (of_tally r) 0) (held x) p) c.in-default.is (c.tally.ensures 0).step)) }
+    record { left_alone = λ h. refl; told = inl (tally_refused m p r 0 c.in_default.field-0 (subst (λ (x : Result ℕ PlanFault). Step m p (ask (of_tally r) 0) (held x) p) c.in_default.is (c.tally.ensures 0).step)) }
 
 pub returns-in-Ok-figures : goal.returns-in-Ok-figures
 returns-in-Ok-figures c =
@@ -31,4 +31,4 @@ returns-in-Err c =
     let r = c.args.rule in
     let w = length c.args.workspace.now in
     let tally = tally_answer m p r 0 c.in-Ok.tally (subst (λ (x : Result ℕ PlanFault). Step m p (ask (of_tally r) 0) (held x) p) c.in-Ok.is (c.tally.ensures 0).step) in
-    record { left_alone = λ h. c.figures.ensures.refused-leaves-workspace c.in-Err.field-0 c.in-Err.is; told = inr (figures_refused m p r w c.in-Err.field-0 tally.0 (subst (λ (x : Result (Option Figures) PlanFault). Step m p (ask (of_figures r) w) (figured x) p) c.in-Err.is c.figures.ensures.called.step)) }
+    record { left_alone = λ h. c.figures.ensures.refused_leaves_workspace c.in-Err.field-0 c.in-Err.is; told = inr (figures_refused m p r w c.in-Err.field-0 tally.0 (subst (λ (x : Result (Option Figures) PlanFault). Step m p (ask (of_figures r) w) (figured x) p) c.in-Err.is c.figures.ensures.called.step)) }
