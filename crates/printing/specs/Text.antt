@@ -61,10 +61,12 @@ told_text (Marked r) = level_text (codes "mark") r
 told_text (Backed r) = level_text (codes "back") r
 told_text Publish = codes "publish ok"
 
--- a fault that has no number is want of memory
-abbrev pub fault_text : ℕ → Option Report → List ℕ
-fault_text line (Some r) = decimal line ++ (codes " " ++ refusal_text r)
-fault_text line None = decimal line ++ codes " out of memory"
+abbrev pub fault_text : ℕ → Report → List ℕ
+fault_text line r = decimal line ++ (codes " " ++ refusal_text r)
+
+-- want of memory has no number
+abbrev pub memory_text : ℕ → List ℕ
+memory_text line = decimal line ++ codes " out of memory"
 
 abbrev pub digit_text : ℕ → List ℕ
 digit_text n = digit_glyph false n ∷ []

@@ -2,10 +2,11 @@
 //
 // Each type here is one line, or a part of one. Proved: the text of each, character by character.
 #![tactic(auto)]
+
 ghost use Rattle.std.specs.Prelude.{◌≡◌, ◌<◌, false, List, [], ◌∷◌, ◌++◌, Some, codes, decimal};
 ghost use Rattle.std.specs.Fmt.{digit_glyph};
 ghost use Rattle.refusals.specs.Reports.{file_report};
-ghost use Rattle.printing.specs.Text.{work_text, failure_text, layer_text, refusal_text, try_text, start_text, level_text, told_text, fault_text, hex_text, long_hex_text, cell_text, rule_text};
+ghost use Rattle.printing.specs.Text.{work_text, failure_text, layer_text, refusal_text, try_text, start_text, level_text, told_text, fault_text, memory_text, hex_text, long_hex_text, cell_text, rule_text};
 
 use interpreter::file::{CellLine, RuleLine, Told};
 use planning::plan::{Start, Try};
@@ -215,7 +216,7 @@ impl fmt::Display for ToldText {
     }
 }
 
-// A fault with the number of its line. Want of memory is told in words.
+// A fault with the number of its line.
 #[derive(Clone, Copy)]
 pub struct FaultText(pub FileFault);
 
@@ -224,13 +225,23 @@ impl fmt::Display for FaultText {
 
     fn fmt<W: fmt::Write>(&self, f: &mut fmt::Formatter<W>) -> fmt::Result {
         let line = self.0.line;
-        match self.0.report() {
-            Some(report) => {
-                let refusal = RefusalText(report);
-                write!(f, "{line} {refusal}")
-            }
-            None => write!(f, "{line} out of memory"),
-        }
+        let refusal = RefusalText(self.0.report());
+        write!(f, "{line} {refusal}")
+    }
+}
+
+// Want of memory at a line, which is no fault: it is told in words.
+#[derive(Clone, Copy)]
+pub struct MemoryText {
+    pub line: u64,
+}
+
+impl fmt::Display for MemoryText {
+    ghost output = { λ x. Some (memory_text x.line) };
+
+    fn fmt<W: fmt::Write>(&self, f: &mut fmt::Formatter<W>) -> fmt::Result {
+        let line = self.line;
+        write!(f, "{line} out of memory")
     }
 }
 
