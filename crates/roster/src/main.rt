@@ -5,13 +5,14 @@
 // buffered, and what was printed is on its way before the program waits for more input. It ends with
 // status 0, unless a line of the file stopped it: then with 1.
 #![tactic(auto)]
+
 use anyhow::anyhow;
 use interpreter::file::{FilePlan, FileRoster, Told};
 use interpreter::read;
 use posting::drafting::{Drafted, FileDraft};
 use posting::kept::KeptTable;
-use printing::{CellText, Entry, FaultText, RuleText};
-use refusals::FileFault;
+use printing::{CellText, Entry, FaultText, MemoryText, RuleText};
+use refusals::{FileFault, LineError};
 use std::alloc::Global;
 use std::io;
 use std::io::{BufRead, BufReader, BufWriter, Stdin, Stdout, Write};
@@ -38,14 +39,14 @@ enum Then {
 }
 
 impl Desk {
-    fn new(rt: &HostRuntime) -> Desk {
-        Desk {
-            input: BufReader::new(rt.stdin()),
-            output: BufWriter::new(rt.stdout()),
+    fn new(rt: &HostRuntime) -> io::Result<Desk> {
+        Ok(Desk {
+            input: BufReader::new(rt.alloc(), rt.stdin())?,
+            output: BufWriter::new(rt.alloc(), rt.stdout())?,
             line: LineBuffer::new(),
             ended: false,
             number: 0,
-        }
+        })
     }
 
     // Reads the next line; false where the input is at its end.
@@ -87,6 +88,24 @@ impl Desk {
     fn stop(&mut self, fault: FileFault) -> anyhow::Result<()> {
         let fault = FaultText(fault);
         writeln!(self.output, "{fault}")?;
+        self.end()
+    }
+
+    // The same of a line before the start, for which there may be no memory.
+    fn stop_draft(&mut self, error: LineError) -> anyhow::Result<()> {
+        let line = self.number;
+        match error {
+            LineError::Fault(fault) => self.stop(FileFault { line, fault }),
+            LineError::Memory => {
+                let text = MemoryText { line };
+                writeln!(self.output, "{text}")?;
+                self.end()
+            }
+        }
+    }
+
+    // Ends the program with status 1.
+    fn end(&mut self) -> anyhow::Result<()> {
         self.output.flush()?;
         Err(anyhow!("the file was refused"))
     }
@@ -98,9 +117,9 @@ impl Desk {
     }
 
     // One line before the start.
-    fn draft_line(&mut self, heap: Global, draft: &mut FileDraft) -> Result<Drafted, FileFault> {
+    fn draft_line(&mut self, heap: Global, draft: &mut FileDraft) -> Result<Drafted, LineError> {
         let line = self.line.line(self.ended);
-        at_line(self.number, read::draft_line(draft, heap, line))
+        read::draft_line(draft, heap, line)
     }
 
     // One line after the start.
@@ -123,7 +142,7 @@ fn draft_all(desk: &mut Desk, heap: Global, draft: &mut FileDraft) -> anyhow::Re
         match desk.draft_line(heap, draft) {
             Ok(Drafted::Posted) => {}
             Ok(Drafted::Start) => return Ok(Then::GoOn),
-            Err(fault) => desk.stop(fault)?,
+            Err(error) => desk.stop_draft(error)?,
         }
     }
     Ok(Then::End)
@@ -209,7 +228,7 @@ fn serve(rt: &HostRuntime, desk: &mut Desk) -> anyhow::Result<()> {
 }
 
 fn main(rt: HostRuntime) -> anyhow::Result<()> {
-    let mut desk = Desk::new(&rt);
+    let mut desk = Desk::new(&rt)?;
     serve(&rt, &mut desk)?;
     desk.output.flush()?;
     Ok(())
