@@ -86,10 +86,7 @@ fn read_kernel(
             spelled(bytes, &frame)?;
             Ok(Answer::Holds(true))
         }
-        Err(fault) => match fault.report() {
-            Some(report) => Ok(Answer::Refused(refusal_of(report))),
-            None => Err(Stop::Memory),
-        },
+        Err(fault) => Ok(Answer::Refused(refusal_of(fault.report()))),
     }
 }
 

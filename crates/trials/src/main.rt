@@ -7,6 +7,7 @@
 //
 //     trials [SEED [CASES]]
 #![tactic(auto)]
+
 use crate::bench::Bench;
 use crate::counts::Counts;
 use crate::dice::Dice;

@@ -2,11 +2,11 @@
 // kernel. Slow, and meant to be: it has no sweeps, keeps no masks between calls, and undoes nothing.
 pub mod counters;
 pub mod drafted;
+pub mod faults;
 pub mod fillings;
 pub mod frames;
 pub mod judging;
 pub mod log;
-pub mod posting;
 pub mod reading;
 pub mod rounds;
 pub mod sequences;

@@ -4,7 +4,7 @@ use crate::bench::Bench;
 use crate::counts::more;
 use crate::dice::Dice;
 use crate::kernel::refusal_of;
-use crate::plain::posting;
+use crate::plain::faults;
 use crate::stop::{Stop, What, agree};
 use automata::Table;
 use planning::plan::Draft;
@@ -55,7 +55,7 @@ fn try_word(bench: &mut Bench, dice: &mut Dice) -> Result<(), Stop> {
         Ok(_) => FINE,
         Err(fault) => fault_answer(fault),
     };
-    let plain = plain_answer(posting::check_word(duties.as_slice()));
+    let plain = plain_answer(faults::check_word(duties.as_slice()));
     compare(bench, kernel, plain)
 }
 
@@ -71,7 +71,7 @@ fn try_table(bench: &mut Bench, dice: &mut Dice) -> Result<(), Stop> {
         Ok(_) => FINE,
         Err(fault) => fault_answer(fault),
     };
-    let plain = plain_answer(posting::check_table(number, steps.as_slice()));
+    let plain = plain_answer(faults::check_table(number, steps.as_slice()));
     compare(bench, kernel, plain)
 }
 
@@ -85,7 +85,7 @@ fn try_map(bench: &mut Bench, dice: &mut Dice) -> Result<(), Stop> {
         Ok(()) => FINE,
         Err(fault) => fault_answer(fault),
     };
-    compare(bench, kernel, plain_answer(posting::check_duties(&classes)))
+    compare(bench, kernel, plain_answer(faults::check_duties(&classes)))
 }
 
 // A row's cells: one after the other, but for a few.
@@ -125,11 +125,11 @@ fn try_rule(bench: &mut Bench, dice: &mut Dice) -> Result<(), Stop> {
         Err(error) => post_answer(error)?,
     };
     let empty = if tally == 0 {
-        Some(posting::fault(12, 0))
+        Some(faults::fault(12, 0))
     } else {
         None
     };
-    let plain = match posting::check_row(cells.as_slice(), limit.min(192)) {
+    let plain = match faults::check_row(cells.as_slice(), limit.min(192)) {
         Some(refusal) => Some(refusal),
         None => empty,
     };
@@ -145,7 +145,7 @@ fn try_range(bench: &mut Bench, dice: &mut Dice) -> Result<(), Stop> {
         Ok(()) => FINE,
         Err(fault) => fault_answer(fault),
     };
-    let plain = posting::check_range(first, number, 192, mask);
+    let plain = faults::check_range(first, number, 192, mask);
     compare(bench, kernel, plain_answer(plain))
 }
 
@@ -156,7 +156,7 @@ fn try_sense(bench: &mut Bench, dice: &mut Dice) -> Result<(), Stop> {
         Err(fault) => fault_answer(fault),
     };
     let plain = if number > 2 {
-        Some(posting::fault(11, 0))
+        Some(faults::fault(11, 0))
     } else {
         None
     };

@@ -8,8 +8,8 @@ use interpreter::file::{FilePlan, FileRoster, Told};
 use interpreter::read;
 use posting::drafting::{Drafted, FileDraft};
 use posting::kept::KeptTable;
-use printing::{CellText, Entry, FaultText, RuleText};
-use refusals::FileFault;
+use printing::{CellText, Entry, FaultText, MemoryText, RuleText};
+use refusals::{FileFault, LineError};
 use std::alloc::{AllocError, Global};
 use wire::digits::FrameBytes;
 use wire::lines::LineBuffer;
@@ -63,6 +63,19 @@ impl<'a> Desk<'a> {
         let text = format!(in self.heap; "{fault}\n")?;
         self.out.push_str(text.as_str())
     }
+
+    // The same of a line before the start, for which there may be no memory.
+    fn stop_draft(&mut self, error: LineError) -> Result<(), AllocError> {
+        let line = self.number;
+        match error {
+            LineError::Fault(fault) => self.stop(FileFault { line, fault }),
+            LineError::Memory => {
+                let text = MemoryText { line };
+                let text = format!(in self.heap; "{text}\n")?;
+                self.out.push_str(text.as_str())
+            }
+        }
+    }
 }
 
 // The lines before the start: whether there is one.
@@ -72,11 +85,11 @@ fn draft_all(desk: &mut Desk<'_>, draft: &mut FileDraft) -> Result<bool, AllocEr
             return Ok(false);
         }
         let line = desk.line.line(desk.ended);
-        match at_line(desk.number, read::draft_line(draft, desk.heap, line)) {
+        match read::draft_line(draft, desk.heap, line) {
             Ok(Drafted::Posted) => {}
             Ok(Drafted::Start) => return Ok(true),
-            Err(fault) => {
-                desk.stop(fault)?;
+            Err(error) => {
+                desk.stop_draft(error)?;
                 return Ok(false);
             }
         }

@@ -1,7 +1,7 @@
 // The frames of a file up to the start: what they post, and why one is refused.
 use crate::answer::Refusal;
+use crate::plain::faults;
 use crate::plain::frames::{Frame, Halt, byte, number, part};
-use crate::plain::posting;
 use crate::problem::{Kind, Posted, Problem, Sense};
 use std::alloc::{AllocError, Global};
 
@@ -30,7 +30,7 @@ fn pass(fault: Option<Refusal>) -> Result<(), Halt> {
 // Refuses what was given before.
 fn once(given: bool) -> Result<(), Halt> {
     pass(if given {
-        Some(posting::fault(22, 0))
+        Some(faults::fault(22, 0))
     } else {
         None
     })
@@ -70,7 +70,7 @@ impl Drafted {
         let first = usize::from(byte(body, 0));
         let cells = usize::from(byte(body, 1));
         let mask = (number(part(body, 2, 4)) & 0xffff) as u16;
-        pass(posting::check_range(first, cells, self.size, mask))?;
+        pass(faults::check_range(first, cells, self.size, mask))?;
         for (cell, old) in self.problem.cells.iter_mut().enumerate() {
             if first <= cell && cell - first < cells {
                 *old = mask;
@@ -80,7 +80,7 @@ impl Drafted {
     }
 
     fn post_word(&mut self, heap: Global, body: &[u8]) -> Result<(), Halt> {
-        pass(posting::check_word(body))?;
+        pass(faults::check_word(body))?;
         once(self.has_word)?;
         self.problem.word = Vec::from_slice(heap, body)?;
         self.has_word = true;
@@ -90,7 +90,7 @@ impl Drafted {
     fn post_table(&mut self, heap: Global, body: &[u8]) -> Result<(), Halt> {
         let states = byte(body, 0);
         let steps = part(body, 1, body.len());
-        pass(posting::check_table(states, steps))?;
+        pass(faults::check_table(states, steps))?;
         once(self.has_table)?;
         self.problem.states = states;
         self.problem.steps = Vec::from_slice(heap, steps)?;
@@ -99,7 +99,7 @@ impl Drafted {
     }
 
     fn post_map(&mut self, body: &[u8]) -> Result<(), Halt> {
-        pass(posting::check_duties(body))?;
+        pass(faults::check_duties(body))?;
         once(self.has_map)?;
         for (class, given) in self.problem.classes.iter_mut().zip(body.iter()) {
             *class = *given;
@@ -131,18 +131,18 @@ impl Drafted {
     fn post_rule(&mut self, heap: Global, body: &[u8]) -> Result<(), Halt> {
         let cells = part(body, 10, body.len());
         let tally = number(part(body, 2, 10));
-        pass(posting::check_row(cells, self.size))?;
+        pass(faults::check_row(cells, self.size))?;
         let (Some(kind), Some(sense)) = (kind_of(byte(body, 0)), sense_of(byte(body, 1))) else {
-            return Err(Halt::Fault(posting::fault(11, 0)));
+            return Err(Halt::Fault(faults::fault(11, 0)));
         };
         if tally == 0 {
-            return Err(Halt::Fault(posting::fault(12, 0)));
+            return Err(Halt::Fault(faults::fault(12, 0)));
         }
         if !self.has(kind) {
-            return Err(Halt::Fault(posting::fault(23, 0)));
+            return Err(Halt::Fault(faults::fault(23, 0)));
         }
         if self.rules_of(kind) >= RULES_OF_KIND {
-            return Err(Halt::Fault(posting::fault(24, 0)));
+            return Err(Halt::Fault(faults::fault(24, 0)));
         }
         let cells = Vec::from_slice(heap, cells)?;
         self.problem.rules.push(Posted {

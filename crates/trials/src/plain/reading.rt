@@ -26,7 +26,7 @@ impl fmt::Display for Spot {
 
 // A line of the answer.
 fn tell(out: &mut String, line: usize, text: &str) -> Result<(), AllocError> {
-    let heap = out.allocator();
+    let heap = *out.allocator();
     out.push_str(format!(in heap; "{line} {text}\n")?.as_str())
 }
 
@@ -35,7 +35,8 @@ fn tell_halt(out: &mut String, line: usize, halt: Halt) -> Result<(), AllocError
     match halt {
         Halt::Memory => Err(AllocError),
         Halt::Fault(refusal) => {
-            let text = format!(in out.allocator(); "{refusal}")?;
+            let heap = *out.allocator();
+            let text = format!(in heap; "{refusal}")?;
             tell(out, line, text.as_str())
         }
     }
