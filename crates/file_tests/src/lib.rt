@@ -9,7 +9,7 @@ mod tests {
     use planning::plan::Start;
     use posting::drafting::FileDraft;
     use posting::kept::KeptTable;
-    use refusals::{FileFault, Layer, LineFault, PlanFault, Report};
+    use refusals::{FileFault, Layer, LineError, LineFault, PlanFault, Report};
     use std::alloc::Global;
     use std::test::Fail;
     use wire::lines::Line;
@@ -22,7 +22,7 @@ mod tests {
         })
     }
 
-    fn report(fault: LineFault) -> Option<Report> {
+    fn report(fault: LineFault) -> Report {
         FileFault { line: 1, fault }.report()
     }
 
@@ -34,15 +34,16 @@ mod tests {
     fn opening(heap: Global, text: &[u8]) -> Option<Report> {
         match read::open(heap, line(text)) {
             Ok(_) => None,
-            Err(fault) => report(fault),
+            Err(fault) => Some(report(fault)),
         }
     }
 
     // Why a line before the start is refused.
-    fn posting(heap: Global, draft: &mut FileDraft, text: &[u8]) -> Option<Report> {
+    fn posting(heap: Global, draft: &mut FileDraft, text: &[u8]) -> Result<Option<Report>, Fail> {
         match read::draft_line(draft, heap, line(text)) {
-            Ok(_) => None,
-            Err(fault) => report(fault),
+            Ok(_) => Ok(None),
+            Err(LineError::Fault(fault)) => Ok(Some(report(fault))),
+            Err(LineError::Memory) => Err(Fail::new("there is no memory")),
         }
     }
 
@@ -64,27 +65,27 @@ mod tests {
         let heap = rt.alloc();
         let mut draft = read::open(heap, line(b"0103"))?;
         let d = &mut draft;
-        assert_eq!(rt; posting(heap, d, b"0200040000"), told(6, Layer::Post, 0));
-        assert_eq!(rt; posting(heap, d, b"0200030000"), told(7, Layer::Post, 0));
-        assert_eq!(rt; posting(heap, d, b"0500"), told(8, Layer::Post, 0));
-        assert_eq!(rt; posting(heap, d, b"040010"), told(9, Layer::Post, 1));
-        assert_eq!(rt; posting(heap, d, b"030002"), None);
-        assert_eq!(rt; posting(heap, d, b"030004"), told(22, Layer::Post, 0));
+        assert_eq!(rt; posting(heap, d, b"0200040000")?, told(6, Layer::Post, 0));
+        assert_eq!(rt; posting(heap, d, b"0200030000")?, told(7, Layer::Post, 0));
+        assert_eq!(rt; posting(heap, d, b"0500")?, told(8, Layer::Post, 0));
+        assert_eq!(rt; posting(heap, d, b"040010")?, told(9, Layer::Post, 1));
+        assert_eq!(rt; posting(heap, d, b"030002")?, None);
+        assert_eq!(rt; posting(heap, d, b"030004")?, told(22, Layer::Post, 0));
         let row = b"0703000000000000000000000102030303";
-        assert_eq!(rt; posting(heap, d, row), told(6, Layer::Post, 3));
+        assert_eq!(rt; posting(heap, d, row)?, told(6, Layer::Post, 3));
         let row = b"07060300000000000000000001020001";
-        assert_eq!(rt; posting(heap, d, row), told(10, Layer::Post, 3));
+        assert_eq!(rt; posting(heap, d, row)?, told(10, Layer::Post, 3));
         let kind = b"0706000000000000000000000102";
-        assert_eq!(rt; posting(heap, d, kind), told(11, Layer::Post, 0));
+        assert_eq!(rt; posting(heap, d, kind)?, told(11, Layer::Post, 0));
         let tally = b"0704000000000000000000000102";
-        assert_eq!(rt; posting(heap, d, tally), told(12, Layer::Post, 0));
+        assert_eq!(rt; posting(heap, d, tally)?, told(12, Layer::Post, 0));
         let word = b"0704000000000000000003000102";
-        assert_eq!(rt; posting(heap, d, word), told(23, Layer::Post, 0));
+        assert_eq!(rt; posting(heap, d, word)?, told(23, Layer::Post, 0));
         let good = b"0703000000000000000003000102";
         for _ in 0..24 {
-            assert_eq!(rt; posting(heap, d, good), None);
+            assert_eq!(rt; posting(heap, d, good)?, None);
         }
-        assert_eq!(rt; posting(heap, d, good), told(24, Layer::Post, 0));
+        assert_eq!(rt; posting(heap, d, good)?, told(24, Layer::Post, 0));
         Ok(())
     }
 
@@ -92,10 +93,10 @@ mod tests {
     fn a_void_plan_refuses_its_calls(rt: HostRuntime) -> Result<(), Fail> {
         let heap = rt.alloc();
         let mut draft = read::open(heap, line(b"0101"))?;
-        assert_eq!(rt; posting(heap, &mut draft, b"0200010001"), None);
-        assert_eq!(rt; posting(heap, &mut draft, b"030001"), None);
+        assert_eq!(rt; posting(heap, &mut draft, b"0200010001")?, None);
+        assert_eq!(rt; posting(heap, &mut draft, b"030001")?, None);
         let none = b"070300000000000000000100";
-        assert_eq!(rt; posting(heap, &mut draft, none), None);
+        assert_eq!(rt; posting(heap, &mut draft, none)?, None);
         let mut room = KeptTable::blank();
         let mut workspace = vec![in heap; 0u64; families::WORKSPACE]?;
         let workspace = workspace.as_mut_slice();
@@ -106,7 +107,7 @@ mod tests {
         let Err(fault) = read::plan_line(&mut plan, line(b"08"), workspace) else {
             return Err(Fail::new("a second start was taken"));
         };
-        assert_eq!(rt; report(fault), told(21, Layer::Frame, 0));
+        assert_eq!(rt; Some(report(fault)), told(21, Layer::Frame, 0));
         Ok(())
     }
 }
