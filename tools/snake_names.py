@@ -4,8 +4,8 @@
 usage: python3 tools/snake_names.py        at the top, once, right after the kit's port.py
        python3 tools/snake_names.py list   prints the names and writes nothing
 
-A name is what a signature, a record's field or a constructor declares. Each token that is such a name is respelled in the .antt files, in the ghost
-lines of .rt files, in the must-fail edits, and between backticks in README.md and docs/. Names from a library of the kit, names that Rattle makes for
+A name is what a signature, a record's field or a constructor declares. Each token that is such a name is respelled in the code of .antt files, in the
+ghost lines of .rt files, in the must-fail edits, and between backticks in README.md and docs/. Names from a library of the kit, names that Rattle makes for
 places and goals, and functions of src/ keep their spelling.
 """
 
@@ -51,6 +51,11 @@ def turn(text, names):
     return TOKEN.sub(lambda m: OTHERWISE.get(m[0], m[0].replace("-", "_")) if m[0] in names else m[0], text)
 
 
+def turn_proof(text, names):
+    """Turns the code of each line, and not its comment."""
+    return "\n".join(turn(code(line), names) + line[len(code(line)) :] for line in text.split("\n"))
+
+
 def turn_source(text, names):
     """Turns ghost lines alone, and clauses: what stands in a comment or a string is left."""
     out = []
@@ -76,6 +81,8 @@ def main():
             new = turn_source(text, mine)
         elif f.endswith(".md"):
             new = turn_page(text, mine)
+        elif f.endswith(".antt"):
+            new = turn_proof(text, mine)
         else:
             new = turn(text, mine)
         if new != text:

@@ -37,7 +37,7 @@ none_lost c t d u p q =
     ap₂ (λ (x : List ℕ) (y : ℕ). values_lost c x + length (lost 64 t y)) p q
     ∙ ap₂ (λ (x y : ℕ). x + y) (values_lost_none c) (ap length (lost_nothing 64 t))
 
--- past the last rule there is none of a one_sided sense
+-- past the last rule there is none of a one-sided sense
 pub past_sense : (rules : List Rule) (r : ℕ) → length rules ≤ r → one_sided_at rules r ≡ false
 past_sense rules r h = get_or_past (map (λ (x : Rule). one_sided x.sense) rules) r false (omega (arith, length-map rules (λ (x : Rule). one_sided x.sense)))
 

@@ -36,7 +36,7 @@ not_one_way : (Exactly ≡ AtMost) ⊎ (Exactly ≡ AtLeast) → ⊥
 not_one_way (inl e) = let z : ◌≡◌ {A = ℕ} 0 1 = cc in omega arith
 not_one_way (inr e) = let z : ◌≡◌ {A = ℕ} 0 1 = cc in omega arith
 
--- a duty that stays in a one_way rule is used by a sequence that meets an open count
+-- a duty that stays in a one-way rule is used by a sequence that meets an open count
 stays_used : (a : Automaton) (masks : List ℕ) (sense : Sense) → (sense ≡ AtMost) ⊎ (sense ≡ AtLeast) → (t j d : ℕ) → DutyStays a masks sense t j d
     → (ds : List ℕ) × (k : ℕ) × From masks ds × (slice_index ds j ≡ d) × (k < 64) × In t k × Meets sense (total a 0 ds) k
 stays_used a masks AtMost one_way t j d (k, l, o, (ds, f, e, m)) = (ds, k, f, e, l, o, m)
