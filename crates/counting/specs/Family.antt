@@ -1,6 +1,6 @@
 -- The counting family: one automaton, and a list of rules over it.
 use Rattle.std.specs.Prelude.{◌≡◌, ℕ, ◌<◌, ◌≤◌, Bool, true, false, List, [], ◌∷◌, ◌++◌, map, length, None, vec_items, slice_index_or}
-use Rattle.refusals.specs.declared.PostError.{PostError}
+use Rattle.refusals.specs.Posting.{PostError}
 use Rattle.refusals.specs.declared.PostFault.TheVariants.{FamilyFull}
 use Rattle.refusals.specs.Posting.{Refusing}
 use Rattle.automata.specs.Automaton.{Automaton}

@@ -1,7 +1,7 @@
 -- A line whose frame is not posted.
 use Rattle.std.proofs.Common.{ℕ, Bool, List}
-use Rattle.refusals.specs.declared.FrameError.{FrameError}
-use Rattle.refusals.specs.declared.FrameError.TheVariants.{Fault, Memory}
+use Rattle.refusals.specs.Posting.{FrameError}
+use Rattle.refusals.specs.declared.Stopped.TheVariants.{Fault, Memory}
 use Rattle.refusals.specs.Posting.{line_error}
 use Rattle.wire.specs.declared.frame.Frame.{Frame}
 use Rattle.wire.specs.declared.order.Phase.TheVariants.{Draft}

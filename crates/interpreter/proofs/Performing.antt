@@ -2,7 +2,7 @@
 use Rattle.std.proofs.Common.{◌≡◌, ℕ, ◌+◌, ◌<◌, true, false, List, [], ◌∷◌, ◌++◌, length, get_or, take, set, vec_items, sym, refl, subst, append_assoc, append-nil, arith}
 use Rattle.std.proofs.lemmas.List.{take_more, take_more_set}
 use Rattle.refusals.specs.declared.FrameFault.{FrameFault}
-use Rattle.refusals.specs.declared.FrameError.{FrameError}
+use Rattle.refusals.specs.Posting.{FrameError}
 use Rattle.automata.specs.declared.Among.{Among}
 use Rattle.automata.specs.declared.Map.{Map}
 use Rattle.automata.specs.declared.Table.{Table}

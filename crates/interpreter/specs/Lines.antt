@@ -1,11 +1,10 @@
 -- What a line does: the frame that it spells, carried out.
 use Rattle.std.specs.Prelude.{◌≡◌, ℕ, Bool, List}
 use Rattle.refusals.specs.declared.FrameFault.{FrameFault}
-use Rattle.refusals.specs.declared.FrameError.TheVariants as posting
 use Rattle.refusals.specs.declared.LineFault.{LineFault}
 use Rattle.refusals.specs.declared.LineFault.TheVariants.{Frame as InFrame}
-use Rattle.refusals.specs.declared.LineError.{LineError}
-use Rattle.refusals.specs.declared.LineError.TheVariants.{Fault, Memory}
+use Rattle.refusals.specs.Posting.{LineError}
+use Rattle.refusals.specs.declared.Stopped.TheVariants.{Fault, Memory}
 use Rattle.families.specs.Meaning.{Meaning}
 use Rattle.histories.specs.Plans.{View}
 use Rattle.wire.specs.declared.frame.Frame.{Frame}
@@ -44,8 +43,8 @@ pub record DraftLine (text : List ℕ) (ended : Bool) (s t : Sheet) (d : Drafted
 -- the line spells no frame that may come, or what it posts is at fault, or there is no memory for it
 pub data NoDraftLine (text : List ℕ) (ended : Bool) (s : Sheet) : LineError → Type 0 where
   not_read : (e : LineFault) → LineRefused Draft text ended e → NoDraftLine text ended s (Fault e)
-  not_posted : (frame : Frame) → Spells Draft text ended frame → (e : FrameFault) → posts.Refused frame s (posting.Fault e) → NoDraftLine text ended s (Fault (InFrame e))
-  no_memory : (frame : Frame) → Spells Draft text ended frame → posts.Refused frame s posting.Memory → NoDraftLine text ended s Memory
+  not_posted : (frame : Frame) → Spells Draft text ended frame → (e : FrameFault) → posts.Refused frame s (Fault e) → NoDraftLine text ended s (Fault (InFrame e))
+  no_memory : (frame : Frame) → Spells Draft text ended frame → posts.Refused frame s Memory → NoDraftLine text ended s Memory
 
 -- the line's frame makes its call
 pub record CallLine (text : List ℕ) (ended : Bool) (m : Meaning) (size w : ℕ) (p : View) (t : Told) (q : View) : Type 0 where

@@ -3,8 +3,8 @@ use Rattle.std.specs.Prelude.{◌≡◌, ℕ, ◌<◌, ◌≤◌, Bool, true, fa
 use Rattle.refusals.specs.declared.PlanFault.{PlanFault}
 use Rattle.refusals.specs.declared.PlanFault.TheVariants.{Cell}
 use Rattle.refusals.specs.declared.FrameFault.TheVariants.{Order, Cells}
-use Rattle.refusals.specs.declared.FrameError.{FrameError}
-use Rattle.refusals.specs.declared.FrameError.TheVariants.{Fault}
+use Rattle.refusals.specs.Posting.{FrameError}
+use Rattle.refusals.specs.declared.Stopped.TheVariants.{Fault}
 use Rattle.families.specs.Meaning.{Meaning, workspace_needed}
 use Rattle.histories.specs.Decisions.{on_cell, on_tally}
 use Rattle.histories.specs.Calls as law

@@ -1,8 +1,8 @@
 -- Posting: how a sheet changes, and why a frame is refused.
 use Rattle.std.proofs.Common.{◌≡◌, ℕ, ◌+◌, ◌<◌, ◌≤◌, min, Bool, true, List, [], ◌∷◌, ◌++◌, map, length, is_some, Some, None, Ok, Err, vec_items, Option, Result, sym, refl, ap, ◌∙◌, subst, inl, ⊎_elim, arith, Bor, MatchResult}
 use Rattle.std.proofs.lemmas.List.{length-map}
-use Rattle.refusals.specs.declared.PostError.{PostError}
-use Rattle.refusals.specs.declared.PostError.TheVariants.{Fault, Memory}
+use Rattle.refusals.specs.Posting.{PostError}
+use Rattle.refusals.specs.declared.Stopped.TheVariants.{Fault, Memory}
 use Rattle.refusals.specs.declared.PostFault.{PostFault}
 use Rattle.refusals.specs.Posting.{Refusing, frame_error}
 use Rattle.rules.specs.declared.Row.{Row}

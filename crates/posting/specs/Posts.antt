@@ -1,11 +1,11 @@
 -- What each frame before the start posts, and when it is refused.
 use Rattle.std.specs.Prelude.{◌≡◌, ℕ, ◌+◌, ◌<◌, ◌≤◌, Bool, true, ◌⊎◌, List, [], ◌∷◌, ◌++◌, length, is_some, Some, None, Option, slice_index}
-use Rattle.refusals.specs.declared.PostError.{PostError}
+use Rattle.refusals.specs.Posting.{PostError}
 use Rattle.refusals.specs.declared.PostFault.{PostFault}
 use Rattle.refusals.specs.declared.PostFault.TheVariants.{Range, EmptyMask, GivenBefore, EmptyTally}
 use Rattle.refusals.specs.declared.FrameFault.TheVariants as fault
-use Rattle.refusals.specs.declared.FrameError.{FrameError}
-use Rattle.refusals.specs.declared.FrameError.TheVariants.{Fault, Memory}
+use Rattle.refusals.specs.Posting.{FrameError}
+use Rattle.refusals.specs.declared.Stopped.TheVariants.{Fault, Memory}
 use Rattle.refusals.specs.Posting.{Refusing}
 use Rattle.automata.specs.Faults.{TableFault, ClassFault}
 use Rattle.automata.specs.Kinds.{GoodTable}

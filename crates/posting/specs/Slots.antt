@@ -1,6 +1,6 @@
 -- What posting a rule beside its automaton does.
 use Rattle.std.specs.Prelude.{◌≡◌, ℕ, ◌<◌, ◌≤◌, Bool, true, false, List, [], ◌∷◌, ◌++◌, length}
-use Rattle.refusals.specs.declared.PostError.{PostError}
+use Rattle.refusals.specs.Posting.{PostError}
 use Rattle.refusals.specs.declared.PostFault.{PostFault}
 use Rattle.refusals.specs.declared.PostFault.TheVariants.{NotGiven, FamilyFull}
 use Rattle.refusals.specs.Posting.{Refusing}

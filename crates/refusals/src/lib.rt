@@ -6,10 +6,8 @@
 
 ghost use Rattle.std.specs.Prelude.{◌≡◌};
 ghost use Rattle.refusals.specs.declared.FrameFault.TheVariants.{Post, Plan};
-ghost use Rattle.refusals.specs.declared.FrameError.TheVariants as frame;
 ghost use Rattle.refusals.specs.declared.LineFault.TheVariants.{Frame};
-ghost use Rattle.refusals.specs.declared.LineError.TheVariants as line;
-ghost use Rattle.refusals.specs.declared.PostError.TheVariants.{Fault, Memory};
+ghost use Rattle.refusals.specs.declared.Stopped.TheVariants.{Fault, Memory};
 ghost use Rattle.refusals.specs.Posting.{frame_error, line_error};
 ghost use Rattle.refusals.specs.Reports.{refusal, post_report, plan_report, frame_report, line_report, file_report};
 
@@ -101,37 +99,6 @@ impl PostFault {
     }
 }
 
-// Why posting did not go through: a fault of what was posted, or want of memory, which has no number.
-#[derive(Clone, Copy, PartialEq, Eq, Debug)]
-pub enum PostError {
-    Fault(PostFault),
-    Memory,
-}
-
-impl From<PostFault> for PostError {
-    ghost from_gives = { λ fault r. r ≡ Fault fault };
-
-    fn from(fault: PostFault) -> PostError {
-        PostError::Fault(fault)
-    }
-}
-
-impl From<AllocError> for PostError {
-    ghost from_gives = { λ _ r. r ≡ Memory };
-
-    fn from(_e: AllocError) -> PostError {
-        PostError::Memory
-    }
-}
-
-impl<T: Drop> From<AllocFailed<T>> for PostError {
-    ghost from_gives = { λ _ r. r ≡ Memory };
-
-    fn from(_e: AllocFailed<T>) -> PostError {
-        PostError::Memory
-    }
-}
-
 // Why a call on lent memory or on a plan is turned down.
 #[derive(Clone, Copy, PartialEq, Eq, Debug)]
 pub enum PlanFault {
@@ -218,40 +185,6 @@ impl From<PlanFault> for FrameFault {
     }
 }
 
-// Why a frame was not carried out: a fault, or want of memory, which is no fault and has no number.
-#[derive(Clone, Copy, PartialEq, Eq, Debug)]
-pub enum FrameError {
-    Fault(FrameFault),
-    Memory,
-}
-
-impl From<FrameFault> for FrameError {
-    ghost from_gives = { λ fault r. r ≡ frame.Fault fault };
-
-    fn from(fault: FrameFault) -> FrameError {
-        FrameError::Fault(fault)
-    }
-}
-
-impl From<PostFault> for FrameError {
-    ghost from_gives = { λ fault r. r ≡ frame.Fault (Post fault) };
-
-    fn from(fault: PostFault) -> FrameError {
-        FrameError::Fault(FrameFault::Post(fault))
-    }
-}
-
-impl From<PostError> for FrameError {
-    ghost from_gives = { λ e r. r ≡ frame_error e };
-
-    fn from(e: PostError) -> FrameError {
-        match e {
-            PostError::Fault(fault) => FrameError::Fault(FrameFault::Post(fault)),
-            PostError::Memory => FrameError::Memory,
-        }
-    }
-}
-
 // Why a line is turned down.
 #[derive(Clone, Copy, PartialEq, Eq, Debug)]
 pub enum LineFault {
@@ -283,18 +216,76 @@ impl From<FrameFault> for LineFault {
     }
 }
 
-// Why a line was not carried out: a fault, or want of memory.
+// Why something was not done: a fault of what was given, or want of memory, which is no fault and has no number.
 #[derive(Clone, Copy, PartialEq, Eq, Debug)]
-pub enum LineError {
-    Fault(LineFault),
+pub enum Stopped<F> {
+    Fault(F),
     Memory,
 }
 
+// The same of posting, of a frame and of a line.
+pub type PostError = Stopped<PostFault>;
+
+pub type FrameError = Stopped<FrameFault>;
+
+pub type LineError = Stopped<LineFault>;
+
+impl<F> From<AllocError> for Stopped<F> {
+    ghost from_gives = { λ _ r. r ≡ Memory };
+
+    fn from(_e: AllocError) -> Stopped<F> {
+        Stopped::Memory
+    }
+}
+
+impl<F, T: Drop> From<AllocFailed<T>> for Stopped<F> {
+    ghost from_gives = { λ _ r. r ≡ Memory };
+
+    fn from(_e: AllocFailed<T>) -> Stopped<F> {
+        Stopped::Memory
+    }
+}
+
+impl From<PostFault> for PostError {
+    ghost from_gives = { λ fault r. r ≡ Fault fault };
+
+    fn from(fault: PostFault) -> PostError {
+        PostError::Fault(fault)
+    }
+}
+
+impl From<FrameFault> for FrameError {
+    ghost from_gives = { λ fault r. r ≡ Fault fault };
+
+    fn from(fault: FrameFault) -> FrameError {
+        FrameError::Fault(fault)
+    }
+}
+
+impl From<PostFault> for FrameError {
+    ghost from_gives = { λ fault r. r ≡ Fault (Post fault) };
+
+    fn from(fault: PostFault) -> FrameError {
+        FrameError::Fault(FrameFault::Post(fault))
+    }
+}
+
 impl From<LineFault> for LineError {
-    ghost from_gives = { λ fault r. r ≡ line.Fault fault };
+    ghost from_gives = { λ fault r. r ≡ Fault fault };
 
     fn from(fault: LineFault) -> LineError {
         LineError::Fault(fault)
+    }
+}
+
+impl From<PostError> for FrameError {
+    ghost from_gives = { λ e r. r ≡ frame_error e };
+
+    fn from(e: PostError) -> FrameError {
+        match e {
+            PostError::Fault(fault) => FrameError::Fault(FrameFault::Post(fault)),
+            PostError::Memory => FrameError::Memory,
+        }
     }
 }
 
