@@ -73,7 +73,7 @@ impl CounterAutomaton for Among {
 
     fn step(&self, state: usize, duty: usize) -> (usize, u64) {
         if state < 1 && duty < 16 {
-            (0, ((self.set >> duty) & 1) as u64)
+            (0, u64::from((self.set >> duty) & 1))
         } else {
             (0, 0)
         }
@@ -81,30 +81,12 @@ impl CounterAutomaton for Among {
 }
 
 // A number of states, and the steps in bytes that the caller lends: the byte at 16 * state + duty is
-// 16 times the next state plus the increase.
+// 16 times the next state plus the increase. Only bytes that are a table's are kept in one.
 #[derive(Clone, Copy)]
 pub struct Table<'a> {
     states: usize,
     steps: &'a [u8],
-}
-
-// The first byte whose next state is not below the number of states.
-fn first_bad_state(states: usize, steps: &[u8]) -> Option<usize>
-    ensures { MatchOption result ((k : ℕ) → k < length steps.now → slice_index steps.now k / 16 < states) (First (λ b. states ≤ b / 16) steps.now) }
-{
-    for (k, b) in steps.iter().enumerate() {
-        if (*b / 16) as usize >= states {
-            return Some(k);
-        }
-    }
-    None
-}
-
-// A byte of a slice, 0 past its end.
-fn byte_at(bytes: &[u8], place: usize) -> u8
-    ensures { result ≡ slice_index bytes.now place }
-{
-    if place < bytes.len() { bytes[place] } else { 0 }
+    ghost good: { GoodTable states steps.now },
 }
 
 impl<'a> Table<'a> {
@@ -121,7 +103,7 @@ impl<'a> Table<'a> {
         if states < 1 || states > 16 {
             return Err(PostFault::States);
         }
-        match first_bad_state(states, steps) {
+        match steps.iter().position(|b| (*b / 16) as usize >= states) {
             Some(place) => Err(PostFault::NextState { place }),
             None => Ok(Table { states, steps }),
         }
@@ -134,22 +116,15 @@ impl<'a> CounterAutomaton for Table<'a> {
     ghost lawful = { λ t. table_lawful t.states t.steps.now };
 
     fn states(&self) -> usize {
-        self.states.min(16).max(1)
+        self.states
     }
 
     fn step(&self, state: usize, duty: usize) -> (usize, u64) {
-        let states = self.states();
-        if state >= states || duty >= 16 {
+        if state >= self.states || duty >= 16 {
             return (0, 0);
         }
-        let step = byte_at(self.steps, 16 * state + duty);
-        let next = (step / 16) as usize;
-        let increase = (step % 16) as u64;
-        if next < states {
-            (next, increase)
-        } else {
-            (0, increase)
-        }
+        let step = self.steps[16 * state + duty];
+        ((step / 16) as usize, u64::from(step % 16))
     }
 }
 
@@ -164,12 +139,10 @@ pub struct Map<C> {
 pub fn check_classes(classes: &[u8; 16]) -> Result<(), PostFault>
     ensures { MatchResult result (λ _. (k : ℕ) → k < 16 → slice_index classes.now k < 16) (ClassFault classes.now) }
 {
-    for (place, class) in classes.iter().enumerate() {
-        if *class > 15 {
-            return Err(PostFault::Duty { place });
-        }
+    match classes.iter().position(|class| *class > 15) {
+        Some(place) => Err(PostFault::Duty { place }),
+        None => Ok(()),
     }
-    Ok(())
 }
 
 impl<C> Map<C> {
