@@ -7,12 +7,14 @@
 // what came after the latest occurrence, and the total is the number of occurrences.
 #![tactic(auto)]
 
-ghost use Rattle.std.specs.Prelude.{◌≡◌, ℕ, ◌+◌, ◌-◌, ◌*◌, ◌<◌, ◌≤◌, length, take, IfOk, MatchResult, slice_index};
+ghost use Rattle.std.specs.Prelude.{◌≡◌, ℕ, ◌+◌, ◌-◌, ◌*◌, ◌<◌, ◌≤◌, length, IfOk, MatchResult, slice_index, refl};
+ghost use Rattle.arrayvec.specs.ArrayVec.{array_vec_len};
 ghost use Rattle.words.specs.Faults.{GoodWord, WordFault};
 ghost use Rattle.words.specs.Laws.{counting_lawful};
 ghost use Rattle.words.specs.Occurrences.{Counts};
 ghost use Rattle.words.specs.Search.{counting, ends_with, longest_of, state_after, text_at};
 
+use arrayvec::ArrayVec;
 use automata::CounterAutomaton;
 use refusals::PostFault;
 
@@ -20,13 +22,11 @@ use refusals::PostFault;
 // each state and duty, at entry 16 * state + duty.
 #[derive(Drop)]
 pub struct Word {
-    len: usize,
-    duties: [u8; 16],
+    duties: ArrayVec<u8, 16>,
     next: [u8; 256],
-    ghost some: { 1 ≤ len },
-    ghost few: { len ≤ 16 },
-    ghost whole: { length (take len duties) ≡ len },
-    ghost searched: { (q d : ℕ) → (q < len) × (d < 16) → slice_index next (16 * q + d) ≡ (counting (take len duties)).next q d },
+    ghost some: { 1 ≤ array_vec_len duties },
+    ghost few: { array_vec_len duties ≤ 16 },
+    ghost searched: { (q d : ℕ) → (q < array_vec_len duties) × (d < 16) → slice_index next (16 * q + d) ≡ (counting duties.items).next q d },
 }
 
 // Whether the duties are a word: else what is wrong with them.
@@ -38,24 +38,10 @@ fn check(duties: &[u8]) -> Result<(), PostFault>
             place: duties.len().min(16),
         });
     }
-    for (place, duty) in duties.iter().enumerate() {
-        if *duty > 15 {
-            return Err(PostFault::Duty { place });
-        }
+    match duties.iter().position(|duty| *duty > 15) {
+        Some(place) => Err(PostFault::Duty { place }),
+        None => Ok(()),
     }
-    Ok(())
-}
-
-// The duties at the front of an array.
-fn in_front(duties: &[u8]) -> [u8; 16]
-    requires { length duties.now ≤ 16 }
-    ensures { take (length duties.now) result ≡ duties.now }
-{
-    let mut front = [0; 16];
-    for (i, duty) in duties.iter().enumerate() {
-        front[i] = *duty;
-    }
-    front
 }
 
 // Whether the text ends in p.
@@ -68,10 +54,11 @@ fn ends(text: &[u8], p: &[u8]) -> bool
 // The length of the longest proper prefix of the word that is a suffix of the text.
 fn longest(word: &[u8], text: &[u8]) -> usize
     requires { 1 ≤ length word.now }
-    ensures { result ≡ longest_of word.now text.now (length word.now - 1) }
+    ensures is { result ≡ longest_of word.now text.now (length word.now - 1) }
+    ensures below { result < length word.now }
 {
     for j in (1..word.len()).rev() {
-        if ends(text, &word[0..j]) {
+        if ends(text, &word[..j]) {
             return j;
         }
     }
@@ -79,65 +66,61 @@ fn longest(word: &[u8], text: &[u8]) -> usize
 }
 
 // The state after a duty is read at a state.
-fn next_state(duties: [u8; 16], len: usize, state: usize, duty: u8) -> usize
-    requires some { 1 ≤ len }
-    requires few { len ≤ 16 }
-    requires whole { length (take len duties) ≡ len }
-    requires state { state < len }
-    ensures { result ≡ state_after (take len duties) (text_at (take len duties) state duty) }
+fn next_state(word: &[u8], state: usize, duty: u8) -> usize
+    requires few { length word.now ≤ 16 }
+    requires state { state < length word.now }
+    ensures after { result ≡ state_after word.now (text_at word.now state duty) }
+    ensures below { result < length word.now }
 {
-    let mut read = duties;
-    read[state] = duty;
-    let word = &duties[0..len];
-    let text = &read[0..state + 1];
-    if ends(text, word) {
+    let mut text = ArrayVec::<u8, 16>::new();
+    text.try_extend_from_slice(&word[..state]).unwrap();
+    text.push(duty);
+    if ends(text.as_slice(), word) {
         0
     } else {
-        longest(word, text)
+        longest(word, text.as_slice())
     }
 }
 
 // The next state of each state and duty, at entry 16 * state + duty.
-fn search(duties: [u8; 16], len: usize) -> [u8; 256]
-    requires some { 1 ≤ len }
-    requires few { len ≤ 16 }
-    requires whole { length (take len duties) ≡ len }
-    ensures { (q d : ℕ) → (q < len) × (d < 16) → slice_index result (16 * q + d) ≡ (counting (take len duties)).next q d }
+fn search(word: &[u8]) -> [u8; 256]
+    requires { length word.now ≤ 16 }
+    ensures { (q d : ℕ) → (q < length word.now) × (d < 16) → slice_index result (16 * q + d) ≡ (counting word.now).next q d }
 {
     let mut next = [0; 256];
-    for k in 0..16 * len {
-        next[k] = next_state(duties, len, k / 16, (k % 16) as u8) as u8;
+    for (k, after) in next[..16 * word.len()].iter_mut().enumerate() {
+        *after = next_state(word, k / 16, (k % 16) as u8) as u8;
     }
     next
 }
 
 impl Word {
     pub fn new(duties: &[u8]) -> Result<Word, PostFault>
-        ensures made { MatchResult result (λ w. GoodWord duties.now × Counts duties.now (counting (take w.len w.duties))) (WordFault duties.now) }
-        ensures holds { IfOk result (λ w. take w.len w.duties ≡ duties.now) }
+        ensures made { MatchResult result (λ w. GoodWord duties.now × Counts duties.now (counting w.duties.items)) (WordFault duties.now) }
+        ensures holds { IfOk result (λ w. w.duties.items ≡ duties.now) }
     {
         check(duties)?;
-        let len = duties.len();
-        let duties = in_front(duties);
-        let next = search(duties, len);
-        Ok(Word { len, duties, next })
+        let next = search(duties);
+        let duties = ArrayVec::try_from(duties).unwrap();
+        Ok(Word { duties, next })
     }
 }
 
 impl CounterAutomaton for Word {
-    ghost meaning = { λ w. counting (take w.len w.duties) };
+    ghost meaning = { λ w. counting w.duties.items };
 
-    ghost lawful = { λ w. counting_lawful (take w.len w.duties) w.len w.whole w.some w.few };
+    ghost lawful = { λ w. counting_lawful w.duties.items (array_vec_len w.duties) refl w.some w.few };
 
     fn states(&self) -> usize {
-        self.len
+        self.duties.len()
     }
 
     fn step(&self, state: usize, duty: usize) -> (usize, u64) {
-        if state >= self.len || duty >= 16 {
+        let word = self.duties.as_slice();
+        if state >= word.len() || duty >= 16 {
             return (0, 0);
         }
-        let occurs = state + 1 == self.len && duty == self.duties[state] as usize;
-        (self.next[16 * state + duty] as usize, occurs as u64)
+        let occurs = state + 1 == word.len() && duty == word[state] as usize;
+        (self.next[16 * state + duty] as usize, u64::from(occurs))
     }
 }
