@@ -49,9 +49,9 @@ fn next_row<M: Measure, C: CounterAutomaton>(automaton: &C, mask: u16, row: &[u6
     ensures { (q : ℕ) → q < 16 → slice_index result q ≡ pushed M.Measure.kind (C.CounterAutomaton.meaning automaton.now) mask (λ p. slice_index row.now p) q (C.CounterAutomaton.meaning automaton.now).states }
 {
     let mut new = [M::none(); 16];
-    for state in 0..automaton.states() {
-        if row[state] != M::none() {
-            pass::<M, C>(automaton, mask, state, row[state], &mut new);
+    for (state, code) in row[..automaton.states()].iter().enumerate() {
+        if *code != M::none() {
+            pass::<M, C>(automaton, mask, state, *code, &mut new);
         }
     }
     new
@@ -64,9 +64,7 @@ fn store(codes: &mut [u64], place: usize, row: &[u64; 16])
     ensures before { (k : ℕ) → k < 16 * place → slice_index codes.new k ≡ slice_index codes.old k }
     ensures after { (k : ℕ) → 16 * place + 16 ≤ k → slice_index codes.new k ≡ slice_index codes.old k }
 {
-    for (q, code) in row.iter().enumerate() {
-        codes[16 * place + q] = *code;
-    }
+    codes[16 * place..16 * place + 16].copy_from_slice(row);
 }
 
 // Sweeps forward: code 16 * i + q measures the sequences over the i masks before a place that bring the automaton to state q.
@@ -117,8 +115,8 @@ fn previous_row<M: Measure, C: CounterAutomaton>(
     ensures absent { (q : ℕ) → (C.CounterAutomaton.meaning automaton.now).states ≤ q → q < 16 → slice_index result q ≡ M.Measure.kind.none }
 {
     let mut new = [M::none(); 16];
-    for state in 0..automaton.states() {
-        new[state] = pull::<M, C>(automaton, mask, state, row);
+    for (state, code) in new[..automaton.states()].iter_mut().enumerate() {
+        *code = pull::<M, C>(automaton, mask, state, row);
     }
     new
 }
@@ -130,9 +128,7 @@ fn last_row<M: Measure>(states: usize) -> [u64; 16]
     ensures absent { (q : ℕ) → states ≤ q → q < 16 → slice_index result q ≡ M.Measure.kind.none }
 {
     let mut row = [M::none(); 16];
-    for state in 0..states {
-        row[state] = M::start();
-    }
+    row[..states].fill(M::start());
     row
 }
 
@@ -149,6 +145,7 @@ pub fn backward<M: Measure, C: CounterAutomaton>(
     }
     let mut row = last_row::<M>(automaton.states());
     store(codes, masks.len(), &row);
+    // An index loop: the proof with `enumerate().rev()` did not close.
     for i in (0..masks.len()).rev() {
         row = previous_row::<M, C>(automaton, masks[i], &row);
         store(codes, i, &row);

@@ -1,9 +1,7 @@
-use Rattle.std.proofs.Common.{◌≡◌, ℕ, ◌<◌, ◌≤◌, length, get_or}
+use Rattle.std.proofs.Common.{◌≡◌, ℕ, ◌<◌, get_or}
 use Rattle.sweeps.specs.Place.{pulled}
 use Rattle.sweeps.proofs.previous_row.Given as goal
 
 abbrev pub invariant-loop-state : goal.invariant-loop-state
 invariant-loop-state g l =
-    (length l.new ≡ 16)
-    × ((q : ℕ) → q < l.state → get_or l.new q 0 ≡ pulled g.M.Measure.kind (g.C.CounterAutomaton.meaning l.automaton) l.mask (λ p. get_or l.row p 0) q)
-    × ((q : ℕ) → l.state ≤ q → q < 16 → get_or l.new q 0 ≡ g.M.Measure.kind.none)
+    (q : ℕ) → q < l.state → get_or l.code-items q 0 ≡ pulled g.M.Measure.kind (g.C.CounterAutomaton.meaning l.automaton) l.mask (λ p. get_or l.row p 0) q
