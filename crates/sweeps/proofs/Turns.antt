@@ -1,5 +1,7 @@
 -- One turn of each loop over the open duties of a mask, and over the states.
-use Rattle.std.proofs.Common.{◌≡◌, ℕ, ◌+◌, ◌^◌, ◌<◌, cond, List, [], ◌∷◌, length, get_or, set, sym, ap, ◌∙◌, ap₂, ⊎_elim, add-one, arith, get_or-set_other, get_or-set_same}
+use Rattle.std.proofs.Common.{◌≡◌, ℕ, ◌+◌, ◌^◌, ◌<◌, cond, List, [], ◌∷◌, ◌++◌, length, get_or, take, set, min, sym, ap, ◌∙◌, ap₂, ⊎_elim, add-one, arith, get_or-set_other, get_or-set_same, length-append}
+use Rattle.std.proofs.Math.Seq.{take-append_seam, get_or-append_seam}
+use Rattle.std.proofs.lemmas.List.{take-take, get_or-take, length-take}
 use Rattle.std.proofs.lemmas.Bool.{cases_eq, eq-eqb, ne_eqb}
 use Rattle.masks.specs.Members.{members}
 use Rattle.masks.proofs.Counting.{members_wider}
@@ -68,3 +70,14 @@ module _ {m : Measuring} (laws : Laws m) where
 -- the members of a mask of 16 bits are its duties
 pub duties_wider : (mask : ℕ) → mask < 2 ^ 16 → members 64 mask ≡ duties mask
 duties_wider mask h = members_wider 16 48 mask h
+
+-- a walk over a list from the back: what is left is the front of the list, and its last element stands just behind what is left then
+pub back_turn : (xs rest left : List ℕ) (x : ℕ) → rest ≡ take (length rest) xs → rest ≡ left ++ (x ∷ []) → (length rest ≡ length left + 1) × (length left < length xs) × (left ≡ take (length left) xs) × (x ≡ get_or xs (length left) 0)
+back_turn xs rest left x front e =
+    let n : length rest ≡ length left + 1 = ap length e ∙ length-append left (x ∷ []) in
+    let whole : length rest ≡ min (length rest) (length xs) = ap length front ∙ length-take (length rest) xs in (
+      n,
+      omega arith,
+      sym (take-append_seam left (x ∷ [])) ∙ ap (take (length left)) (sym e ∙ front) ∙ take-take (length left) (length rest) xs (omega arith),
+      sym (get_or-append_seam left x [] 0) ∙ ap (λ ys. get_or ys (length left) 0) (sym e ∙ front) ∙ get_or-take (length rest) xs (length left) 0 (omega arith),
+    )

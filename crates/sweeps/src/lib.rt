@@ -145,9 +145,8 @@ pub fn backward<M: Measure, C: CounterAutomaton>(
     }
     let mut row = last_row::<M>(automaton.states());
     store(codes, masks.len(), &row);
-    // An index loop: the proof with `enumerate().rev()` did not close.
-    for i in (0..masks.len()).rev() {
-        row = previous_row::<M, C>(automaton, masks[i], &row);
+    for (i, mask) in masks.iter().enumerate().rev() {
+        row = previous_row::<M, C>(automaton, *mask, &row);
         store(codes, i, &row);
     }
     Ok(())
