@@ -3,4 +3,5 @@ pub mod Runs
 pub mod Largest
 pub mod Rounds
 pub mod Halfway
+pub mod Spots
 pub mod Determined

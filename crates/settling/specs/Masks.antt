@@ -2,6 +2,7 @@
 use Rattle.std.specs.Prelude.{◌≡◌, ℕ, ◌^◌, ◌<◌, ◌⊎◌, List, length, slice_index}
 use Rattle.families.specs.Masks.{AllWithin}
 use Rattle.families.specs.Meaning.{Meaning}
+use Rattle.settling.specs.declared.Snapshot.{Snapshot}
 
 pub record Masks : Type 0 where
   pub cells : List ℕ
@@ -9,6 +10,9 @@ pub record Masks : Type 0 where
 
 abbrev pub masks : List ℕ → List ℕ → Masks
 masks c t = record { cells = c; tallies = t }
+
+abbrev pub of : Snapshot → Masks
+of s = masks s.cells s.tallies
 
 -- 192 cells of 16 bits and 72 tallies of 64
 pub record Sized (s : Masks) : Type 0 where

@@ -8,14 +8,22 @@
 // rules * (1 + values) runs.
 #![tactic(auto)]
 
-ghost use Rattle.std.specs.Prelude.{◌≡◌, ℕ, ◌<◌, ◌≤◌, true, length, MatchOption, MatchResult, slice_index};
+ghost use Rattle.std.specs.Prelude.{◌≡◌, ℕ, ◌^◌, ◌<◌, ◌≤◌, true, length, MatchOption, MatchResult, slice_index};
 ghost use Rattle.families.specs.Meaning.{workspace_needed};
-ghost use Rattle.settling.specs.Masks.{masks};
+ghost use Rattle.settling.specs.Masks.{of};
 ghost use Rattle.settling.specs.Rounds.{Names, Full, run, taken};
 ghost use Rattle.settling.specs.Told.{Told, NotSettled, place_of};
 
-use families::Family;
+use families::{Family, WORKSPACE};
 use refusals::PlanFault;
+
+// The masks of all cells and of all tallies.
+#[derive(Clone, Copy, Default)]
+#[repr(C)]
+pub struct Snapshot {
+    pub cells: [u16; 192],
+    pub tallies: [u64; 72],
+}
 
 // How many runs were made, and how many values they took.
 #[derive(Clone, Copy)]
@@ -39,104 +47,90 @@ pub struct Failure {
     pub work: Work,
 }
 
-#[derive(Clone, Copy)]
-pub enum Settled {
-    Well(Work),
-    Failed(Failure),
-}
+// How settling ends: well, or at a rule.
+pub type Settled = Result<Work, Failure>;
 
 // The lowest empty cell.
 fn empty_cell(cells: &[u16; 192]) -> Option<usize>
     ensures { MatchOption result ((j : ℕ) → j < 192 → 0 < slice_index cells.now j) (λ i. (i < 192) × (slice_index cells.now i ≡ 0) × ((j : ℕ) → j < i → 0 < slice_index cells.now j)) }
 {
-    for (i, mask) in cells.iter().enumerate() {
-        if *mask == 0 {
-            return Some(i);
-        }
-    }
-    None
+    cells.iter().position(|mask| *mask == 0)
+}
+
+// The rule's tally, if that has nothing left.
+fn empty_tally(masks: &Snapshot, rule: usize) -> Option<Spot>
+    requires { rule < 72 }
+    ensures { MatchOption result (0 < slice_index masks.now.tallies rule) (λ p. (p ≡ Spot.Tally) × (slice_index masks.now.tallies rule ≡ 0)) }
+{
+    (masks.tallies[rule] == 0).then_some(Spot::Tally)
 }
 
 // The first cell with nothing left; where every cell has something, the rule's tally if that has not.
-fn empty_spot(cells: &[u16; 192], tallies: &[u64; 72], rule: usize) -> Option<Spot>
+fn empty_spot(masks: &Snapshot, rule: usize) -> Option<Spot>
     requires { rule < 72 }
-    ensures { MatchOption result (Full (masks cells.now tallies.now) rule) (λ p. Names (masks cells.now tallies.now) rule (place_of p)) }
+    ensures { MatchOption result (Full (of masks.now) rule) (λ p. Names (of masks.now) rule (place_of p)) }
 {
-    match empty_cell(cells) {
-        Some(i) => Some(Spot::Cell(i)),
-        None => {
-            if tallies[rule] == 0 {
-                Some(Spot::Tally)
-            } else {
-                None
-            }
-        }
-    }
+    empty_cell(&masks.cells)
+        .map(Spot::Cell)
+        .or(empty_tally(masks, rule))
 }
 
 // The same; where every cell is known to have something, only the tally is looked at.
-fn spot_left(cells: &[u16; 192], tallies: &[u64; 72], rule: usize, full: bool) -> Option<Spot>
+fn spot_left(masks: &Snapshot, rule: usize, full: bool) -> Option<Spot>
     requires rule { rule < 72 }
-    requires full { full ≡ true → (j : ℕ) → j < 192 → 0 < slice_index cells.now j }
-    ensures { MatchOption result (Full (masks cells.now tallies.now) rule) (λ p. Names (masks cells.now tallies.now) rule (place_of p)) }
+    requires full { full ≡ true → (j : ℕ) → j < 192 → 0 < slice_index masks.now.cells j }
+    ensures { MatchOption result (Full (of masks.now) rule) (λ p. Names (of masks.now) rule (place_of p)) }
 {
     if full {
-        if tallies[rule] == 0 {
-            Some(Spot::Tally)
-        } else {
-            None
-        }
+        empty_tally(masks, rule)
     } else {
-        empty_spot(cells, tallies, rule)
+        empty_spot(masks, rule)
     }
 }
 
+// A fact for the proof, with nothing to run: masks are as wide as their types.
+fn note_widths(cells: &[u16], tallies: &[u64])
+    ensures cells { (i : ℕ) → slice_index cells.now i < 2 ^ 16 }
+    ensures tallies { (r : ℕ) → slice_index tallies.now r < 2 ^ 64 }
+{}
+
 // Runs one rule on the cells and its own tally, and answers how many values went.
-fn run_rule<F: Family>(
-    family: &F,
-    rule: usize,
-    cells: &mut [u16; 192],
-    tallies: &mut [u64; 72],
-    workspace: &mut [u64],
-) -> u32
+fn run_rule<F: Family>(family: &F, rule: usize, masks: &mut Snapshot, workspace: &mut [u64]) -> u32
     requires rule { rule < (F.Family.meaning family.now).rules }
     requires workspace { workspace_needed ≤ length workspace.old }
-    ensures after { masks cells.new tallies.new ≡ run (F.Family.meaning family.now) rule (masks cells.old tallies.old) }
-    ensures removed { result ≡ taken (F.Family.meaning family.now) rule (masks cells.old tallies.old) }
+    ensures after { of masks.new ≡ run (F.Family.meaning family.now) rule (of masks.old) }
+    ensures removed { result ≡ taken (F.Family.meaning family.now) rule (of masks.old) }
 {
-    let mut tally = tallies[rule];
-    let removed = family.run(rule, cells, &mut tally, workspace);
-    tallies[rule] = tally;
-    removed
+    family.run(rule, &mut masks.cells, &mut masks.tallies[rule], workspace)
 }
 
 pub fn settle<F: Family>(
     family: &F,
-    cells: &mut [u16; 192],
-    tallies: &mut [u64; 72],
+    masks: &mut Snapshot,
     workspace: &mut [u64],
 ) -> Result<Settled, PlanFault>
-    ensures { MatchResult result (λ x. (workspace_needed ≤ length workspace.old) × Told (F.Family.meaning family.now) (masks cells.old tallies.old) (masks cells.new tallies.new) x) (NotSettled cells.old cells.new tallies.old tallies.new workspace.old workspace.new) }
+    ensures { MatchResult result (λ x. (workspace_needed ≤ length workspace.old) × Told (F.Family.meaning family.now) (of masks.old) (of masks.new) x) (NotSettled masks.old masks.new workspace.old workspace.new) }
 {
-    if workspace.len() < 4160 {
+    if workspace.len() < WORKSPACE {
         return Err(PlanFault::Workspace);
     }
+    note_widths(&masks.cells, &masks.tallies);
     let count = family.rule_count();
     let mut runs: u32 = 0;
     let mut removed: u32 = 0;
     let settled = 'rounds: loop {
         let before = removed;
         for rule in 0..count {
-            let taken = run_rule(family, rule, cells, tallies, workspace);
+            let taken = run_rule(family, rule, masks, workspace);
             runs += 1;
             removed += taken;
-            if let Some(spot) = spot_left(cells, tallies, rule, runs > 1 && taken == 0) {
+            if let Some(spot) = spot_left(masks, rule, runs > 1 && taken == 0) {
                 let work = Work { runs, removed };
-                break 'rounds Settled::Failed(Failure { rule, spot, work });
+                break 'rounds Err(Failure { rule, spot, work });
             }
         }
         if removed == before {
-            break 'rounds Settled::Well(Work { runs, removed });
+            break 'rounds Ok(Work { runs, removed });
         }
     };
     Ok(settled)

@@ -1,7 +1,7 @@
 use Rattle.std.proofs.Common.{◌≡◌, ◌+◌, ◌-◌, ◌*◌, ◌<◌, ◌≤◌, get_or, sym, refl, ap, ◌∙◌, subst, mul-le-mul_left, mul-add, arith}
 use Rattle.std.proofs.lemmas.Nat.{mul-le}
 use Rattle.std.proofs.lemmas.Bool.{eqb-true, ltb-true}
-use Rattle.settling.specs.Masks.{Masks, masks, Sized}
+use Rattle.settling.specs.Masks.{Masks, of, Sized}
 use Rattle.settling.specs.Rounds.{run, taken, fails, well, Settles}
 use Rattle.settling.specs.Told.{place_of}
 use Rattle.settling.proofs.Order.{room, room_few}
@@ -12,19 +12,26 @@ use Rattle.settling.proofs.settle.Goals as goal
 use Rattle.settling.proofs.settle.Goals.{then-runs-gt1, else-runs-gt1}
 
 pub rounds-init : goal.rounds-init
-rounds-init g c = (
-  λ t e n k w. recount w refl refl (omega arith) (omega arith),
-  omega arith,
-  omega arith,
-  record { cells = c.told-cells; narrow = c.fits-cells; tallies = c.told-tallies; fit = c.fits-tallies },
-  λ h. absurd (omega (arith, h)),
-)
+rounds-init g c =
+    let sized : Sized (of c.args.masks.now) = record {
+      cells = omega arith;
+      narrow = c.note_widths.ensures.cells;
+      tallies = omega arith;
+      fit = c.note_widths.ensures.tallies;
+    } in (
+      λ t e n k w. recount w refl refl (omega arith) (omega arith),
+      omega arith,
+      omega arith,
+      sized,
+      λ h. absurd (omega (arith, h)),
+      sized,
+    )
 
 pub overflow_add-runs : goal.overflow_add-runs
 overflow_add-runs g c =
     let few = (g.F.Family.lawful c.args.family.now).few in
-    let top : room (masks c.args.cells.now c.args.tallies.now) ≤ 7680 =
-    room_few (masks c.args.cells.now c.args.tallies.now) (record { cells = c.told-cells; narrow = c.fits-cells; tallies = c.told-tallies; fit = c.fits-tallies }) in
+    let top : room (of c.args.masks.now) ≤ 7680 =
+    room_few (of c.args.masks.now) c.rounds.invariant.5 in
     let small : c.rule_count-count.result ≤ 72 = omega (arith, few, c.rule_count-count.ensures) in
     let sofar : c.rounds.removed ≤ 7680 = omega (arith, c.rounds.invariant.2, top) in
     let prod : c.rule_count-count.result * c.rounds.removed ≤ 72 * 7680 = mul-le _ _ 72 7680 small sofar in
@@ -33,11 +40,11 @@ overflow_add-runs g c =
 pub overflow_add-removed : goal.overflow_add-removed
 overflow_add-removed g c =
     let m = g.F.Family.meaning c.args.family.now in
-    let s = masks c.loop-rule.cells c.loop-rule.tallies in
+    let s = of c.loop-rule.masks in
     let h : c.loop-rule.rule < m.rules = omega (arith, c.loop-rule-test.true, c.rule_count-count.ensures) in
     let sum : room (run m c.loop-rule.rule s) + taken m c.loop-rule.rule s ≡ room s = run_room m (g.F.Family.lawful c.args.family.now) c.loop-rule.rule s h c.loop-rule.invariant.4 in
-    let top : room (masks c.args.cells.now c.args.tallies.now) ≤ 7680 =
-    room_few (masks c.args.cells.now c.args.tallies.now) (record { cells = c.told-cells; narrow = c.fits-cells; tallies = c.told-tallies; fit = c.fits-tallies }) in
+    let top : room (of c.args.masks.now) ≤ 7680 =
+    room_few (of c.args.masks.now) c.rounds.invariant.5 in
     omega (arith, top, sum, c.rounds.invariant.2, c.loop-rule.invariant.3, c.run_rule-taken.ensures.removed)
 
 pub spot_left-requires : goal.spot_left-requires
@@ -45,14 +52,14 @@ spot_left-requires g c =
     let m = g.F.Family.meaning c.args.family.now in
     let law = g.F.Family.lawful c.args.family.now in
     let r = c.loop-rule.rule in
-    let s = masks c.loop-rule.cells c.loop-rule.tallies in
+    let s = of c.loop-rule.masks in
     let h : r < m.rules = omega (arith, c.loop-rule-test.true, c.rule_count-count.ensures) in
     record {
       rule = omega (arith, h, law.few);
       full = λ e j l. elim c.if-runs-gt1.branch [
         | then-runs-gt1 w ↦
             let none : taken m r s ≡ 0 = sym c.run_rule-taken.ensures.removed ∙ eqb-true c.run_rule-taken.result 0 (sym w.spot_left-is ∙ e) in
-            let same : masks c.run_rule-taken.new.cells c.run_rule-taken.new.tallies ≡ s = c.run_rule-taken.ensures.after ∙ run_same m law r s h c.loop-rule.invariant.4 none in
+            let same : of c.run_rule-taken.new.masks ≡ s = c.run_rule-taken.ensures.after ∙ run_same m law r s h c.loop-rule.invariant.4 none in
             subst (λ (x : Masks). 0 < get_or x.cells j 0) (sym same) (c.loop-rule.invariant.5 (omega (arith, w.if-runs-gt1.true)) j l)
         | else-runs-gt1 w ↦ let more : 1 < c.loop-rule.runs + 1 = ltb-true 1 (c.loop-rule.runs + 1) (sym w.spot_left-is ∙ e) in absurd (omega (arith, more, w.if-runs-gt1.false))
       ];
@@ -63,8 +70,8 @@ loop-rule-preserved g c =
     let m = g.F.Family.meaning c.args.family.now in
     let law = g.F.Family.lawful c.args.family.now in
     let r = c.loop-rule.rule in
-    let s = masks c.loop-rule.cells c.loop-rule.tallies in
-    let t = masks c.run_rule-taken.new.cells c.run_rule-taken.new.tallies in
+    let s = of c.loop-rule.masks in
+    let t = of c.run_rule-taken.new.masks in
     let h : r < m.rules = omega (arith, c.loop-rule-test.true, c.rule_count-count.ensures) in
     let after : t ≡ run m r s = c.run_rule-taken.ensures.after in
     let gone : c.run_rule-taken.result ≡ taken m r s = c.run_rule-taken.ensures.removed in
@@ -72,7 +79,7 @@ loop-rule-preserved g c =
     let sum : room (run m r s) + taken m r s ≡ room s = run_room m law r s h c.loop-rule.invariant.4 in
     let up : c.rounds.removed ≤ c.loop-rule.removed = c.loop-rule.invariant.1 in
     let d = c.loop-rule.removed - c.rounds.removed in (
-      carries_rule m r d s (masks c.rounds.cells c.rounds.tallies) r d c.loop-rule.invariant.0
+      carries_rule m r d s (of c.rounds.masks) r d c.loop-rule.invariant.0
           t c.run_rule-taken.result _ _ h after gone c.in_default.ensures (omega (arith, up)) (omega (arith, up)),
       omega (arith, up),
       omega (arith, c.loop-rule.invariant.2),
@@ -85,9 +92,9 @@ pub rounds-preserved : goal.rounds-preserved
 rounds-preserved g c =
     let m = g.F.Family.meaning c.args.family.now in
     let r = c.loop-rule.rule in
-    let s = masks c.loop-rule.cells c.loop-rule.tallies in
-    let s1 = masks c.rounds.cells c.rounds.tallies in
-    let s0 = masks c.args.cells.now c.args.tallies.now in
+    let s = of c.loop-rule.masks in
+    let s1 = of c.rounds.masks in
+    let s0 = of c.args.masks.now in
     let d = c.loop-rule.removed - c.rounds.removed in
     let count = c.rule_count-count.result in
     let up : c.rounds.removed ≤ c.loop-rule.removed = c.loop-rule.invariant.1 in
@@ -101,6 +108,7 @@ rounds-preserved g c =
       omega (arith, c.rounds.invariant.2, c.loop-rule.invariant.3),
       c.loop-rule.invariant.4,
       c.loop-rule.invariant.5,
+      c.rounds.invariant.5,
     )
 
 pub returns-in-Some : goal.returns-in-Some
@@ -108,10 +116,10 @@ returns-in-Some g c =
     let m = g.F.Family.meaning c.args.family.now in
     let law = g.F.Family.lawful c.args.family.now in
     let r = c.loop-rule.rule in
-    let s = masks c.loop-rule.cells c.loop-rule.tallies in
-    let s1 = masks c.rounds.cells c.rounds.tallies in
-    let s0 = masks c.args.cells.now c.args.tallies.now in
-    let t = masks c.run_rule-taken.new.cells c.run_rule-taken.new.tallies in
+    let s = of c.loop-rule.masks in
+    let s1 = of c.rounds.masks in
+    let s0 = of c.args.masks.now in
+    let t = of c.run_rule-taken.new.masks in
     let d = c.loop-rule.removed - c.rounds.removed in
     let up : c.rounds.removed ≤ c.loop-rule.removed = c.loop-rule.invariant.1 in
     let h : r < m.rules = omega (arith, c.loop-rule-test.true, c.rule_count-count.ensures) in
@@ -121,21 +129,19 @@ returns-in-Some g c =
     c.run_rule-taken.ensures.after c.run_rule-taken.ensures.removed c.in-Some.ensures refl refl in
     let v : Settles m t e 0 0 s0 (c.loop-rule.runs + 1) (c.loop-rule.removed + c.run_rule-taken.result) =
     recount (c.rounds.invariant.0 t e _ _ w) refl refl (omega (arith, c.loop-rule.invariant.2)) (omega (arith, up)) in
-    let sized : Sized s0 = record { cells = c.told-cells; narrow = c.fits-cells; tallies = c.told-tallies; fit = c.fits-tallies } in
-    (omega arith, record { rounds = v; outcome = λ a. settles_outcome m law sized a v })
+    (omega arith, record { rounds = v; outcome = λ a. settles_outcome m law c.rounds.invariant.5 a v })
 
 pub returns-then-removed-before : goal.returns-then-removed-before
 returns-then-removed-before g c =
     let m = g.F.Family.meaning c.args.family.now in
     let law = g.F.Family.lawful c.args.family.now in
     let r = c.loop-rule.rule in
-    let s = masks c.loop-rule.cells c.loop-rule.tallies in
-    let s1 = masks c.rounds.cells c.rounds.tallies in
-    let s0 = masks c.args.cells.now c.args.tallies.now in
+    let s = of c.loop-rule.masks in
+    let s1 = of c.rounds.masks in
+    let s0 = of c.args.masks.now in
     let d = c.loop-rule.removed - c.rounds.removed in
     let over : m.rules ≤ r = omega (arith, c.loop-rule-test.false, c.rule_count-count.ensures) in
     let w : Settles m s well 0 0 s1 r d = carries_end m r d s s1 r d c.loop-rule.invariant.0 over (omega (arith, c.if-removed-before.true)) in
     let v : Settles m s well 0 0 s0 c.loop-rule.runs c.loop-rule.removed =
     recount (c.rounds.invariant.0 s well _ _ w) refl refl (omega (arith, c.loop-rule.invariant.2)) (omega (arith, c.if-removed-before.true)) in
-    let sized : Sized s0 = record { cells = c.told-cells; narrow = c.fits-cells; tallies = c.told-tallies; fit = c.fits-tallies } in
-    (omega arith, record { rounds = v; outcome = λ a. settles_outcome m law sized a v })
+    (omega arith, record { rounds = v; outcome = λ a. settles_outcome m law c.rounds.invariant.5 a v })

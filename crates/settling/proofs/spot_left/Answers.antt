@@ -1,5 +1,5 @@
-use Rattle.settling.specs.Rounds.{own_tally}
+use Rattle.settling.proofs.Spots.{tally_named}
 use Rattle.settling.proofs.spot_left.Goals as goal
 
-pub returns-then-tallies-rule-eq0 : goal.returns-then-tallies-rule-eq0
-returns-then-tallies-rule-eq0 c = own_tally (c.requires.full c.if-full.true) c.if-tallies-rule-eq0.true
+pub returns-then-full : goal.returns-then-full
+returns-then-full c = tally_named _ _ c.empty_tally.result (c.requires.full c.if-full.true) c.empty_tally.ensures
