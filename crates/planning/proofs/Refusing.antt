@@ -53,22 +53,10 @@ module _ (m : Meaning) (void : Bool) (levels : ℕ) where
   decide_empty i x w h e =
       else_later (leb 192 i) Cell EmptyMask (else (eqb x 0) EmptyMask (short w voided)) (lt-leb 192 i h) (else_first (eqb x 0) EmptyMask (short w voided) (eq-eqb x 0 e))
 
-  decide_past : (i x w : ℕ) (f : PlanFault) → i < 192 → 0 < x → short w voided ≡ Some f → refusal m void levels (try (on_cell i x) w) ≡ Some f
+  pub decide_past : (i x w : ℕ) (f : PlanFault) → i < 192 → 0 < x → short w voided ≡ Some f → refusal m void levels (try (on_cell i x) w) ≡ Some f
   decide_past i x w f h p q =
       else_later (leb 192 i) Cell f (else (eqb x 0) EmptyMask (short w voided)) (lt-leb 192 i h)
       (else_later (eqb x 0) EmptyMask f (short w voided) (ne_eqb x 0 (λ e. omega arith)) q)
-
-  too_short : (w : ℕ) → w < workspace_needed → short w voided ≡ Some Workspace
-  too_short w k = else_first (ltb w workspace_needed) Workspace voided (lt-ltb w workspace_needed k)
-
-  is_void : (w : ℕ) → workspace_needed ≤ w → void ≡ true → short w voided ≡ Some Void
-  is_void w k v = else_later (ltb w workspace_needed) Workspace Void voided (le-ltb w workspace_needed k) (else_first void Void None v)
-
-  pub decide_short : (i x w : ℕ) → i < 192 → 0 < x → w < workspace_needed → refusal m void levels (try (on_cell i x) w) ≡ Some Workspace
-  decide_short i x w h p k = decide_past i x w Workspace h p (too_short w k)
-
-  pub decide_void : (i x w : ℕ) → i < 192 → 0 < x → workspace_needed ≤ w → void ≡ true → refusal m void levels (try (on_cell i x) w) ≡ Some Void
-  decide_void i x w h p k v = decide_past i x w Void h p (is_void w k v)
 
   pub bound_empty : (r x w : ℕ) → x ≡ 0 → refusal m void levels (try (on_tally r x) w) ≡ Some EmptyTally
   bound_empty r x w e = else_first (eqb x 0) EmptyTally (else (leb m.rules r) Rule (short w voided)) (eq-eqb x 0 e)
@@ -78,16 +66,10 @@ module _ (m : Meaning) (void : Bool) (levels : ℕ) where
       else_later (eqb x 0) EmptyTally Rule (else (leb m.rules r) Rule (short w voided)) (ne_eqb x 0 (λ e. omega arith))
       (else_first (leb m.rules r) Rule (short w voided) (le-leb m.rules r h))
 
-  bound_past : (r x w : ℕ) (f : PlanFault) → 0 < x → r < m.rules → short w voided ≡ Some f → refusal m void levels (try (on_tally r x) w) ≡ Some f
+  pub bound_past : (r x w : ℕ) (f : PlanFault) → 0 < x → r < m.rules → short w voided ≡ Some f → refusal m void levels (try (on_tally r x) w) ≡ Some f
   bound_past r x w f p h q =
       else_later (eqb x 0) EmptyTally f (else (leb m.rules r) Rule (short w voided)) (ne_eqb x 0 (λ e. omega arith))
       (else_later (leb m.rules r) Rule f (short w voided) (lt-leb m.rules r h) q)
-
-  pub bound_short : (r x w : ℕ) → 0 < x → r < m.rules → w < workspace_needed → refusal m void levels (try (on_tally r x) w) ≡ Some Workspace
-  bound_short r x w p h k = bound_past r x w Workspace p h (too_short w k)
-
-  pub bound_void : (r x w : ℕ) → 0 < x → r < m.rules → workspace_needed ≤ w → void ≡ true → refusal m void levels (try (on_tally r x) w) ≡ Some Void
-  bound_void r x w p h k v = bound_past r x w Void p h (is_void w k v)
 
   pub mark_void : void ≡ true → refusal m void levels mark ≡ Some Void
   mark_void v = else_first void Void (else (leb 16 levels) LevelsFull None) v

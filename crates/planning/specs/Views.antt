@@ -1,15 +1,14 @@
 -- What a plan shows, and what its answers say, in the terms of the law.
-use Rattle.std.specs.Prelude.{◌≡◌, ℕ, zero, suc, List, [], ◌∷◌, Some, None, Ok, Err, Option, Result, slice_index_or}
+use Rattle.std.specs.Prelude.{◌≡◌, ℕ, List, [], map, reverse, Some, None, Ok, Err, Option, Result}
 use Rattle.measures.specs.declared.Figures.{Figures}
 use Rattle.refusals.specs.declared.PlanFault.{PlanFault}
 use Rattle.families.specs.Meaning.{Meaning}
-use Rattle.families.specs.declared.Family.{Ghosts}
-use Rattle.settling.specs.Masks.{Masks, masks}
+use Rattle.settling.specs.Masks.{Masks, of}
 use Rattle.settling.specs.Rounds.{well, fails, Settles}
 use Rattle.settling.specs.Told.{place_of}
 use Rattle.histories.specs.Calls.{Answer, done, failed, level, holds, figures, refused}
 use Rattle.histories.specs.Plans.{View}
-use Rattle.planning.specs.declared.plan.Snapshot.{Snapshot}
+use Rattle.planning.specs.declared.plan.Held.{Held}
 use Rattle.planning.specs.declared.plan.Plan.{Plan}
 use Rattle.planning.specs.declared.plan.Roster.{Roster}
 use Rattle.planning.specs.declared.plan.Start.{Start}
@@ -17,23 +16,16 @@ use Rattle.planning.specs.declared.plan.Start.TheVariants as start
 use Rattle.planning.specs.declared.plan.Try.{Try}
 use Rattle.planning.specs.declared.plan.Try.TheVariants.{Settled, Failed, Own}
 
-abbrev pub of : Snapshot → Masks
-of s = masks s.cells s.tallies
+-- what is held, with the masks at the mark of each open level, the newest first
+abbrev pub shown : {F : Type 0} → Held F → List Masks → View
+shown h below = record { now = of h.masks; below = below; void = h.void }
 
-abbrev pub blank : Snapshot
-blank = record { cells = []; tallies = [] }
-
--- the masks of the first n snapshots, the last of them first
-abbrev pub stacked : List Snapshot → ℕ → List Masks
-stacked stack zero = []
-stacked stack (suc n) = of (slice_index_or stack n blank) ∷ stacked stack n
-
-abbrev pub view : {F : Type 0} {g : Ghosts F} → Plan F g → View
-view p = record { now = of p.masks; below = stacked p.stack p.levels; void = p.void }
+abbrev pub view : {F : Type 0} → Plan F → View
+view p = shown p.held (map of (reverse p.stack.items))
 
 -- a roster as a plan with no open level
 abbrev pub read : {F : Type 0} → Roster F → View
-read r = record { now = of r.masks; below = []; void = r.void }
+read r = shown r.held []
 
 -- how a start is told where the workspace sufficed
 abbrev pub started : Start → Answer

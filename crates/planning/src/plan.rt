@@ -1,20 +1,14 @@
 // Drafts, running plans and published rosters.
-ghost use Rattle.std.specs.Prelude.{ℕ, ◌^◌, ◌<◌, ◌≤◌, slice_index};
+ghost use Rattle.std.specs.Prelude.{ℕ, ◌<◌, slice_index};
 
+use arrayvec::ArrayVec;
 use families::Family;
-use settling::{Failure, Work};
+use settling::{Failure, Snapshot, Work};
 
 pub mod drafts;
 pub mod levels;
 pub mod questions;
 pub mod tries;
-
-// The masks of all cells and of all tallies.
-#[derive(Clone, Copy)]
-pub struct Snapshot {
-    pub cells: [u16; 192],
-    pub tallies: [u64; 72],
-}
 
 // Cells whose masks are being set, none of them empty.
 #[derive(Drop)]
@@ -23,23 +17,25 @@ pub struct Draft {
     ghost some: { (i : ℕ) → i < 192 → 0 < slice_index cells i },
 }
 
-// A plan under way: the present masks, and those at the mark of each open level.
+// What plans and rosters both hold: the family, the present masks, and whether settling failed.
 #[derive(Drop)]
-pub struct Plan<F: Family> {
+struct Held<F: Family> {
     family: F,
     masks: Snapshot,
-    stack: [Snapshot; 16],
-    levels: usize,
     void: bool,
-    ghost few: { levels ≤ 16 },
 }
 
-// A plan that is only read.
+// A plan under way: what it holds, and the masks at the mark of each open level. Fixed memory: a plan does not allocate once it has started.
+#[derive(Drop)]
+pub struct Plan<F: Family> {
+    held: Held<F>,
+    stack: ArrayVec<Snapshot, 16>,
+}
+
+// A plan that is only read: a type of its own, so that deciding after publishing does not compile.
 #[derive(Drop)]
 pub struct Roster<F: Family> {
-    family: F,
-    masks: Snapshot,
-    void: bool,
+    held: Held<F>,
 }
 
 // How a start went: settled; void, since settling failed; or void, since the workspace was too short.

@@ -2,67 +2,66 @@
 ghost use Rattle.std.specs.Prelude.{◌≡◌, ℕ, ◌+◌, ◌<◌, ◌≤◌, true, [], length, replicate, MatchResult};
 ghost use Rattle.refusals.specs.declared.PlanFault.TheVariants.{Workspace};
 ghost use Rattle.families.specs.Meaning.{workspace_needed};
-ghost use Rattle.histories.specs.Log.{Starts, nothing};
+ghost use Rattle.settling.specs.Masks.{of};
+ghost use Rattle.histories.specs.Log.{Starts};
 ghost use Rattle.histories.specs.Plans.{voided, Begun};
 ghost use Rattle.planning.specs.declared.plan.Start.TheVariants.{Short};
 ghost use Rattle.planning.specs.Drafts.{GoodRange, RangeFault, RangeSet};
-ghost use Rattle.planning.specs.Views.{of, view, started};
+ghost use Rattle.planning.specs.Views.{view, started};
 
-use super::{Draft, Plan, Snapshot, Start};
-use families::Family;
+use super::{Draft, Held, Plan, Start};
+use arrayvec::ArrayVec;
+use families::{Family, WORKSPACE};
 use refusals::{PlanFault, PostFault};
-use settling::Settled;
+use settling::Snapshot;
+use std::array;
 
 // Sets the cells from one on to a mask.
 fn fill(cells: &mut [u16; 192], first: usize, number: usize, mask: u16)
     requires { first + number ≤ 192 }
     ensures { RangeSet first number mask cells.old cells.new }
 {
-    for cell in first..first + number {
-        cells[cell] = mask;
-    }
+    cells[first..first + number].fill(mask);
 }
 
 // The masks that a plan starts from.
 fn start_masks<F: Family>(cells: [u16; 192], family: &F) -> Snapshot
     ensures { Starts (F.Family.meaning family.now) cells (of result) }
 {
-    let mut tallies = [0; 72];
-    for rule in 0..family.rule_count() {
-        tallies[rule] = family.start_tally(rule);
-    }
-    Snapshot { cells, tallies }
-}
-
-// Masks with nothing open.
-fn cleared() -> Snapshot
-    ensures { of result ≡ nothing }
-{
     Snapshot {
-        cells: [0; 192],
-        tallies: [0; 72],
+        cells,
+        tallies: array::from_fn(|rule| family.start_tally(rule)),
     }
 }
 
 // A plan with these masks and no open level.
 fn begun<F: Family>(family: F, masks: Snapshot, void: bool) -> Plan<F>
-    ensures family { result.family ≡ family }
+    ensures family { result.held.family ≡ family }
     ensures view { view result ≡ record { now = of masks; below = []; void = void } }
 {
     Plan {
-        family,
-        masks,
-        stack: [masks; 16],
-        levels: 0,
-        void,
+        held: Held {
+            family,
+            masks,
+            void,
+        },
+        stack: ArrayVec::new(),
     }
+}
+
+// A void plan, with nothing open.
+fn void_plan<F: Family>(family: F) -> Plan<F>
+    ensures family { result.held.family ≡ family }
+    ensures view { view result ≡ voided }
+{
+    begun(family, Snapshot::default(), true)
 }
 
 // Whether a workspace is long enough to start on.
 pub fn check_workspace(workspace: &[u64]) -> Result<(), PlanFault>
     ensures { MatchResult result (λ _. workspace_needed ≤ length workspace.now) (λ e. (e ≡ Workspace) × (length workspace.now < workspace_needed)) }
 {
-    if workspace.len() < 4160 {
+    if workspace.len() < WORKSPACE {
         return Err(PlanFault::Workspace);
     }
     Ok(())
@@ -94,16 +93,16 @@ impl Draft {
 
     // Starts a plan: settles the draft's masks and the family's start tallies. Where that fails, or the workspace is too short, the plan is void.
     pub fn start<F: Family>(self, family: F, workspace: &mut [u64]) -> (Plan<F>, Start)
-        ensures family { result.0.family ≡ family }
+        ensures family { result.0.held.family ≡ family }
         ensures begun { workspace_needed ≤ length workspace.old → Begun (F.Family.meaning family) self.cells (started result.1) (view result.0) }
         ensures short { length workspace.old < workspace_needed → (result.1 ≡ Short) × (view result.0 ≡ voided) × (workspace.new ≡ workspace.old) }
     {
         let Draft { cells } = self;
         let mut masks = start_masks(cells, &family);
-        match settling::settle(&family, &mut masks.cells, &mut masks.tallies, workspace) {
-            Ok(Settled::Well(work)) => (begun(family, masks, false), Start::Settled(work)),
-            Ok(Settled::Failed(failure)) => (begun(family, cleared(), true), Start::Void(failure)),
-            Err(_) => (begun(family, cleared(), true), Start::Short),
+        match settling::settle(&family, &mut masks, workspace) {
+            Ok(Ok(work)) => (begun(family, masks, false), Start::Settled(work)),
+            Ok(Err(failure)) => (void_plan(family), Start::Void(failure)),
+            Err(_) => (void_plan(family), Start::Short),
         }
     }
 }

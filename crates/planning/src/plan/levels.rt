@@ -11,35 +11,28 @@ use refusals::PlanFault;
 impl<F: Family> Plan<F> {
     // Opens a level, and answers how many are open.
     pub fn mark(&mut self) -> Result<usize, PlanFault>
-        ensures family { self.new.family ≡ self.old.family }
-        ensures called { Called (F.Family.meaning self.old.family) mark (leveled result) (view self.old) (view self.new) }
+        ensures family { self.new.held.family ≡ self.old.held.family }
+        ensures called { Called (F.Family.meaning self.old.held.family) mark (leveled result) (view self.old) (view self.new) }
     {
-        if self.void {
+        if self.held.void {
             return Err(PlanFault::Void);
         }
-        if self.levels >= 16 {
+        if self.stack.is_full() {
             return Err(PlanFault::LevelsFull);
         }
-        let masks = self.masks;
-        self.stack[self.levels] = masks;
-        self.levels += 1;
-        Ok(self.levels)
+        self.stack.push(self.held.masks);
+        Ok(self.stack.len())
     }
 
     // Closes the newest level, puts the masks back as at its mark, and answers how many levels are open.
     pub fn back(&mut self) -> Result<usize, PlanFault>
-        ensures family { self.new.family ≡ self.old.family }
-        ensures called { Called (F.Family.meaning self.old.family) back (leveled result) (view self.old) (view self.new) }
+        ensures family { self.new.held.family ≡ self.old.held.family }
+        ensures called { Called (F.Family.meaning self.old.held.family) back (leveled result) (view self.old) (view self.new) }
     {
-        if self.void {
+        if self.held.void {
             return Err(PlanFault::Void);
         }
-        if self.levels == 0 {
-            return Err(PlanFault::NoLevel);
-        }
-        self.levels -= 1;
-        let masks = self.stack[self.levels];
-        self.masks = masks;
-        Ok(self.levels)
+        self.held.masks = self.stack.pop().ok_or(PlanFault::NoLevel)?;
+        Ok(self.stack.len())
     }
 }

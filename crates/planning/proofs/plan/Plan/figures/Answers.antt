@@ -1,11 +1,5 @@
-use Rattle.std.proofs.Common.{refl}
 use Rattle.planning.specs.Views.{view}
-use Rattle.histories.proofs.Logs.{called}
 use Rattle.planning.proofs.plan.Plan.figures.Goals as goal
 
-pub returns : goal.returns
-returns g c =
-    record {
-      called = called _ (g.F.Family.lawful c.args.self.now.family) _ _ _ _ (c.figures_of.ensures.asked (view c.args.self.now) refl refl);
-      refused_leaves_workspace = c.figures_of.ensures.refused_leaves_workspace;
-    }
+pub returns-clause-called : goal.returns-clause-called
+returns-clause-called g c = c.figures.ensures.called (view c.args.self.now).below

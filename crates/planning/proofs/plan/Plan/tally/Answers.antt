@@ -1,9 +1,5 @@
-use Rattle.std.proofs.Common.{refl}
 use Rattle.planning.specs.Views.{view}
-use Rattle.histories.proofs.Logs.{called}
 use Rattle.planning.proofs.plan.Plan.tally.Goals as goal
 
 pub returns : goal.returns
-returns g c w =
-    let p = c.args.self.now in
-    called (g.F.Family.meaning p.family) (g.F.Family.lawful p.family) _ _ _ _ (c.tally_of.ensures (view p) w refl)
+returns g c w = c.tally.ensures (view c.args.self.now).below w

@@ -1,8 +1,7 @@
-use Rattle.std.proofs.Common.{◌<◌, length, arith}
-use Rattle.planning.proofs.Ranges.{range_more}
+use Rattle.std.proofs.Common.{arith, ap, ◌∙◌, replicate}
+use Rattle.std.proofs.lemmas.List.{places}
+use Rattle.planning.proofs.Ranges.{range_filled}
 use Rattle.planning.proofs.plan.drafts.fill.Goals as goal
 
-pub loop-cell-preserved : goal.loop-cell-preserved
-loop-cell-preserved c =
-    let h : c.loop-cell.cell < length c.loop-cell.cells = omega (arith, c.requires, c.loop-cell-test.true, c.loop-cell.invariant.size, c.told-cells) in
-    range_more c.args.first c.loop-cell.cell c.args.mask c.args.cells.now c.loop-cell.cells c.loop-cell.auto.cell h c.loop-cell.invariant
+pub returns : goal.returns
+returns c = range_filled c.args.first c.args.number c.args.mask _ c.args.cells.now c.fill.new.self (omega arith) (omega arith) (c.fill.ensures.after (λ y k. k) ∙ ap (λ n. replicate n c.args.mask) (grind (arith, places)))
