@@ -1,5 +1,6 @@
 -- A list of calls and its answers, in the terms of the law.
-use Rattle.std.specs.Prelude.{ℕ, min, Ok}
+use Rattle.std.specs.Prelude.{ℕ, min, Ok, Err, Result}
+use Rattle.refusals.specs.declared.PlanFault.{PlanFault}
 use Rattle.histories.specs.Decisions.{on_cell, on_tally}
 use Rattle.histories.specs.Calls as law
 use Rattle.histories.specs.Calls.{try, mark, back, ask, of_cell, of_tally, of_figures, level, holds, figures, refused}
@@ -24,9 +25,9 @@ request_of w (Figures rule) = ask (of_figures rule) w
 abbrev pub call_of : ℕ → Call → law.Call
 call_of w c = request_of (min c.workspace w) c.request
 
-abbrev pub answer_of : Answer → law.Answer
-answer_of (answer.Tried t) = tried (Ok t)
-answer_of (answer.Level n) = level n
-answer_of (answer.Mask x) = holds x
-answer_of (answer.Told o) = figures o
-answer_of (answer.Refused e) = refused e
+abbrev pub answer_of : Result Answer PlanFault → law.Answer
+answer_of (Ok (answer.Tried t)) = tried (Ok t)
+answer_of (Ok (answer.Level n)) = level n
+answer_of (Ok (answer.Mask x)) = holds x
+answer_of (Ok (answer.Told o)) = figures o
+answer_of (Err e) = refused e

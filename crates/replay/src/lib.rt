@@ -11,7 +11,7 @@ ghost use Rattle.histories.specs.Calls.{Answer as LawAnswer};
 ghost use Rattle.histories.specs.Law.{History};
 ghost use Rattle.histories.specs.Plans.{Called, Ran, voided};
 ghost use Rattle.planning.specs.declared.plan.Start.TheVariants.{Short};
-ghost use Rattle.planning.specs.Views.{view, started, tried, leveled, held, figured};
+ghost use Rattle.planning.specs.Views.{view, started};
 ghost use Rattle.replay.specs.Requests.{request_of, call_of, answer_of};
 
 use families::Family;
@@ -38,86 +38,48 @@ pub struct Call {
     pub workspace: usize,
 }
 
+// What a call answers that is not refused.
 #[derive(Clone, Copy)]
 pub enum Answer {
     Tried(Try),
     Level(usize),
     Mask(u64),
     Told(Option<Figures>),
-    Refused(PlanFault),
-}
-
-fn tried_answer(r: Result<Try, PlanFault>) -> Answer
-    ensures { answer_of result ≡ tried r }
-{
-    match r {
-        Ok(tried) => Answer::Tried(tried),
-        Err(fault) => Answer::Refused(fault),
-    }
-}
-
-fn level_answer(r: Result<usize, PlanFault>) -> Answer
-    ensures { answer_of result ≡ leveled r }
-{
-    match r {
-        Ok(levels) => Answer::Level(levels),
-        Err(fault) => Answer::Refused(fault),
-    }
-}
-
-fn cell_answer(r: Result<u16, PlanFault>) -> Answer
-    ensures { answer_of result ≡ held r }
-{
-    match r {
-        Ok(mask) => Answer::Mask(u64::from(mask)),
-        Err(fault) => Answer::Refused(fault),
-    }
-}
-
-fn tally_answer(r: Result<u64, PlanFault>) -> Answer
-    ensures { answer_of result ≡ held r }
-{
-    match r {
-        Ok(tally) => Answer::Mask(tally),
-        Err(fault) => Answer::Refused(fault),
-    }
-}
-
-fn figures_answer(r: Result<Option<Figures>, PlanFault>) -> Answer
-    ensures { answer_of result ≡ figured r }
-{
-    match r {
-        Ok(figures) => Answer::Told(figures),
-        Err(fault) => Answer::Refused(fault),
-    }
 }
 
 // Makes one request on a lent workspace.
-fn ask<F: Family>(plan: &mut Plan<F>, wanted: Request, workspace: &mut [u64]) -> Answer
-    ensures family { plan.new.family ≡ plan.old.family }
-    ensures called { Called (F.Family.meaning plan.old.family) (request_of (length workspace.old) wanted) (answer_of result) (view plan.old) (view plan.new) }
+fn ask<F: Family>(
+    plan: &mut Plan<F>,
+    wanted: Request,
+    workspace: &mut [u64],
+) -> Result<Answer, PlanFault>
+    ensures family { plan.new.held.family ≡ plan.old.held.family }
+    ensures called { Called (F.Family.meaning plan.old.held.family) (request_of (length workspace.old) wanted) (answer_of result) (view plan.old) (view plan.new) }
     ensures short { length workspace.old < workspace_needed → workspace.new ≡ workspace.old }
 {
     match wanted {
-        Request::Decide { cell, mask } => tried_answer(plan.decide(cell, mask, workspace)),
-        Request::Bound { rule, tally } => tried_answer(plan.bound(rule, tally, workspace)),
-        Request::Mark => level_answer(plan.mark()),
-        Request::Back => level_answer(plan.back()),
-        Request::Cell(cell) => cell_answer(plan.cell(cell)),
-        Request::Tally(rule) => tally_answer(plan.tally(rule)),
-        Request::Figures(rule) => figures_answer(plan.figures(rule, workspace)),
+        Request::Decide { cell, mask } => plan.decide(cell, mask, workspace).map(Answer::Tried),
+        Request::Bound { rule, tally } => plan.bound(rule, tally, workspace).map(Answer::Tried),
+        Request::Mark => plan.mark().map(Answer::Level),
+        Request::Back => plan.back().map(Answer::Level),
+        Request::Cell(cell) => plan.cell(cell).map(|mask| Answer::Mask(u64::from(mask))),
+        Request::Tally(rule) => plan.tally(rule).map(Answer::Mask),
+        Request::Figures(rule) => plan.figures(rule, workspace).map(Answer::Told),
     }
 }
 
 // Makes one call: its request, on as much of the workspace as it may have.
-pub fn make<F: Family>(plan: &mut Plan<F>, call: Call, workspace: &mut [u64]) -> Answer
-    ensures family { plan.new.family ≡ plan.old.family }
-    ensures called { Called (F.Family.meaning plan.old.family) (call_of (length workspace.old) call) (answer_of result) (view plan.old) (view plan.new) }
+pub fn make<F: Family>(
+    plan: &mut Plan<F>,
+    call: Call,
+    workspace: &mut [u64],
+) -> Result<Answer, PlanFault>
+    ensures family { plan.new.held.family ≡ plan.old.held.family }
+    ensures called { Called (F.Family.meaning plan.old.held.family) (call_of (length workspace.old) call) (answer_of result) (view plan.old) (view plan.new) }
     ensures short { length workspace.old < workspace_needed → workspace.new ≡ workspace.old }
 {
     let room = call.workspace.min(workspace.len());
-    let part = &mut workspace[0..room];
-    ask(plan, call.request, part)
+    ask(plan, call.request, &mut workspace[..room])
 }
 
 // Starts a plan and performs the calls in order, until the list or the room for answers is used up.
@@ -126,7 +88,7 @@ pub fn replay<F: Family>(
     draft: Draft,
     family: F,
     calls: &[Call],
-    answers: &mut [Answer],
+    answers: &mut [Result<Answer, PlanFault>],
     workspace: &mut [u64],
 ) -> (Plan<F>, Start, usize)
     ensures made { result.2 ≡ min (length calls.now) (length answers.old) }
@@ -137,9 +99,9 @@ pub fn replay<F: Family>(
 {
     let (mut plan, start) = draft.start(family, workspace);
     let number = calls.len().min(answers.len());
+    // An index loop: of a slice that is written through a zip of `iter_mut` a proof knows nothing afterwards.
     for i in 0..number {
-        let answer = make(&mut plan, calls[i], workspace);
-        answers[i] = answer;
+        answers[i] = make(&mut plan, calls[i], workspace);
     }
     (plan, start, number)
 }

@@ -1,4 +1,4 @@
-use Rattle.std.proofs.Common.{◌≡◌, ℕ, ◌-◌, ◌<◌, min, List, ◌++◌, length, take, drop, refl, ap, ◌∙◌, arith}
+use Rattle.std.proofs.Common.{◌≡◌, ℕ, ◌<◌, min, List, ◌++◌, length, take, drop, refl, ap, ◌∙◌, arith}
 use Rattle.std.proofs.lemmas.List.{length-take, take-append-drop}
 use Rattle.families.specs.Meaning.{workspace_needed}
 use Rattle.replay.specs.Requests.{request_of}
@@ -7,9 +7,9 @@ use Rattle.replay.proofs.make.Goals as goal
 
 pub returns : goal.returns
 returns g c =
-    let m = g.F.Family.meaning c.args.plan.now.family in
+    let m = g.F.Family.meaning c.args.plan.now.held.family in
     let xs = c.args.workspace.now in
-    let room = c.min-room.result - 0 in
+    let room = c.min-room.result in
     let long : min c.args.call.workspace (length xs) ≡ length (take room xs) = simp length-take (omega (arith, c.min-room.ensures)) in
     record {
       family = c.ask.ensures.family;

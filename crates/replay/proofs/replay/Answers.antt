@@ -17,7 +17,7 @@ loop-i-init g c = (refl, Ran.end (view c.start-plan.result.0), (λ l. refl), λ 
 pub loop-i-preserved : goal.loop-i-preserved
 loop-i-preserved g c =
     let m = g.F.Family.meaning in
-    let f = c.start-plan.result.0.family in
+    let f = c.start-plan.result.0.held.family in
     let w = length c.start-plan.new.workspace in
     let v = length c.loop-i.workspace in
     let i = c.loop-i.i in
@@ -25,18 +25,18 @@ loop-i-preserved g c =
     let ys = c.loop-i.answers in
     let d : Call = record { request = Decide 0 0; workspace = 0 } in
     let x = get_or xs i d in
-    let a = c.make-answer.result in
+    let a = c.make.result in
     let p = view c.start-plan.result.0 in
     let q = view c.loop-i.plan in
-    let r = view c.make-answer.new.plan in
-    let one : Called (m c.loop-i.plan.family) (call_of v x) (answer_of a) q r = c.make-answer.ensures.called in
+    let r = view c.make.new.plan in
+    let one : Called (m c.loop-i.plan.held.family) (call_of v x) (answer_of a) q r = c.make.ensures.called in
     let two : Called (m f) (call_of v x) (answer_of a) q r = subst (λ (y : Meaning). Called y (call_of v x) (answer_of a) q r) (ap m c.loop-i.invariant.0) one in
     let three : Called (m f) (call_of w x) (answer_of a) q r = subst (λ (n : ℕ). Called (m f) (call_of n x) (answer_of a) q r) c.loop-i.auto.workspace two in
     let in-calls : i < length xs = omega (arith, c.loop-i-test.true, c.min-number.ensures) in
     let in-answers : i < length ys = omega (arith, c.loop-i-test.true, c.min-number.ensures, c.loop-i.auto.answers) in (
-      c.make-answer.ensures.family ∙ c.loop-i.invariant.0,
+      c.make.ensures.family ∙ c.loop-i.invariant.0,
       ran_next (m f) w xs ys i d a p q r in-calls in-answers c.loop-i.invariant.1 three,
-      (λ l. c.make-answer.ensures.short (omega (arith, c.loop-i.auto.workspace, l)) ∙ c.loop-i.invariant.2 l),
+      (λ l. c.make.ensures.short (omega (arith, c.loop-i.auto.workspace, l)) ∙ c.loop-i.invariant.2 l),
       λ k e h. behind_kept ys i a k e h ∙ c.loop-i.invariant.3 k e (omega arith),
     )
 
@@ -56,8 +56,8 @@ returns g c =
     let p = view c.start-plan.result.0 in
     let q = view c.loop-i.plan in
     let end : c.loop-i.i ≡ n = omega (arith, c.loop-i-test.false, c.loop-i.auto.i-end) in
-    let one : Ran (m c.start-plan.result.0.family) p (map (call_of w) (take n xs)) (map answer_of (take n ys)) q =
-    subst (λ (k : ℕ). Ran (m c.start-plan.result.0.family) p (map (call_of w) (take k xs)) (map answer_of (take k ys)) q) end c.loop-i.invariant.1 in
+    let one : Ran (m c.start-plan.result.0.held.family) p (map (call_of w) (take n xs)) (map answer_of (take n ys)) q =
+    subst (λ (k : ℕ). Ran (m c.start-plan.result.0.held.family) p (map (call_of w) (take k xs)) (map answer_of (take k ys)) q) end c.loop-i.invariant.1 in
     let two : Ran (m f) p (map (call_of w) (take n xs)) (map answer_of (take n ys)) q =
     subst (λ (y : Meaning). Ran y p (map (call_of w) (take n xs)) (map answer_of (take n ys)) q) (ap m c.start-plan.ensures.family) one in
     let three : Ran (m f) p (map (call_of v) (take n xs)) (map answer_of (take n ys)) q =
