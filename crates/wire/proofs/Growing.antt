@@ -1,20 +1,18 @@
 -- How a line's buffer grows.
-use Rattle.std.proofs.Common.{◌≡◌, ℕ, ◌<◌, List, [], ◌∷◌, ◌++◌, length, take, sym, ap, ◌∙◌, subst, append_assoc, append-nil}
-use Rattle.wire.specs.Lines.{pushed, pushed_first, short_is_whole, long_stays_long, Grown}
+use Rattle.std.proofs.Common.{◌≡◌, ℕ, ◌+◌, ◌<◌, List, ◌++◌, length, take, min, sym, ap, ◌∙◌, subst, arith}
+use Rattle.std.proofs.Math.Seq.{take-append-add}
+use Rattle.std.proofs.lemmas.List.{take_min}
+use Rattle.wire.specs.Lines.{part_first, short_is_whole, long_stays_long, Grown}
 
-grown : (before after part : List ℕ) → ((line : List ℕ) → before ≡ take 517 line → after ≡ take 517 (line ++ part)) → Grown before after part
-grown before after part f = record {
-  first = f;
-  whole = λ line e h. f line e ∙ short_is_whole (line ++ part) h;
-  long = λ line e h. subst (λ (xs : List ℕ). 516 < length xs) (sym (f line e)) (long_stays_long (line ++ part) h);
-}
+-- what fits of a part is the part up to the 517th character
+pub kept_part : (text part : List ℕ) (room : ℕ) → room + length text ≡ 517 → text ++ take (min room (length part)) part ≡ take 517 (text ++ part)
+kept_part text part room e =
+    let n : length text + room ≡ 517 = omega arith in
+    rw (take_min, sym (take-append-add text part room), n)
 
--- nothing read
-pub grown_none : (before : List ℕ) → Grown before before []
-grown_none before = grown before before [] (λ line e. e ∙ ap (take 517) (sym (append-nil line)))
-
--- one character more
-pub grown_more : (before after last part : List ℕ) (c : ℕ) → Grown before after part → last ≡ pushed after c → Grown before last (part ++ (c ∷ []))
-grown_more before after last part c g e =
-    grown before last (part ++ (c ∷ []))
-    (λ line h. e ∙ (ap (λ (xs : List ℕ). pushed xs c) (g.first line h) ∙ (pushed_first (line ++ part) c ∙ ap (take 517) (append_assoc line part (c ∷ [])))))
+-- the part that is kept
+pub grown : (before after part : List ℕ) → after ≡ take 517 (before ++ part) → Grown before after part
+grown before after part e = record { first = f; whole = λ line h few. f line h ∙ short_is_whole (line ++ part) few; long = λ line h many. subst (λ (xs : List ℕ). 516 < length xs) (sym (f line h)) (long_stays_long (line ++ part) many) }
+  where
+    f : (line : List ℕ) → before ≡ take 517 line → after ≡ take 517 (line ++ part)
+    f line h = e ∙ (ap (λ (xs : List ℕ). take 517 (xs ++ part)) h ∙ part_first line part)

@@ -1,3 +1,2 @@
-pub mod Buffers
-pub mod Values
 pub mod Growing
+pub mod Pairs

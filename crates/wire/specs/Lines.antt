@@ -23,17 +23,21 @@ pub record Grown (before after part : List ℕ) : Type 0 where
   pub whole : (line : List ℕ) → before ≡ take 517 line → length (line ++ part) ≤ 516 → after ≡ line ++ part
   pub long : (line : List ℕ) → before ≡ take 517 line → 516 < length (line ++ part) → 516 < length after
 
--- Where the first 517 of a line were kept, the first 517 are kept with one character more.
-pub pushed_first : (line : List ℕ) (c : ℕ) → pushed (take 517 line) c ≡ take 517 (line ++ (c ∷ []))
-pushed_first line c = ⊎_elim short long (cases_lt (length line) 517)
+-- Where the first 517 of a line were kept, the first 517 are kept with a part of it more.
+pub part_first : (line part : List ℕ) → take 517 (take 517 line ++ part) ≡ take 517 (line ++ part)
+part_first line part = ⊎_elim short long (cases_lt (length line) 517)
   where
-    short : length line < 517 → pushed (take 517 line) c ≡ take 517 (line ++ (c ∷ []))
+    short : length line < 517 → take 517 (take 517 line ++ part) ≡ take 517 (line ++ part)
     short h = rw (take_all 517 line (omega arith))
 
-    long : 517 ≤ length line → pushed (take 517 line) c ≡ take 517 (line ++ (c ∷ []))
+    long : 517 ≤ length line → take 517 (take 517 line ++ part) ≡ take 517 (line ++ part)
     long h =
-        take-append-le 517 (take 517 line) (c ∷ []) (omega (arith, length-take-le 517 line h))
-        ∙ (take-take 517 517 line (omega arith) ∙ sym (take-append-le 517 line (c ∷ []) h))
+        take-append-le 517 (take 517 line) part (omega (arith, length-take-le 517 line h))
+        ∙ (take-take 517 517 line (omega arith) ∙ sym (take-append-le 517 line part h))
+
+-- Where the first 517 of a line were kept, the first 517 are kept with one character more.
+pub pushed_first : (line : List ℕ) (c : ℕ) → pushed (take 517 line) c ≡ take 517 (line ++ (c ∷ []))
+pushed_first line c = part_first line (c ∷ [])
 
 -- A line that is short enough is kept whole.
 pub short_is_whole : (line : List ℕ) → length line ≤ 516 → take 517 line ≡ line

@@ -4,40 +4,38 @@
 //
 // Proved: it refuses a line exactly where the line is empty, too long or has no newline, or else
 // where a character is no digit or a digit is left over, and says which character is the first.
-ghost use Rattle.std.specs.Prelude.{◌≡◌, ◌<◌, ◌≤◌, true, false, [], length, take, MatchOption, MatchResult};
+ghost use Rattle.std.specs.Prelude.{◌≡◌, ◌<◌, ◌≤◌, true, false, [], length, MatchOption, MatchResult};
 ghost use Rattle.refusals.specs.First.{First};
 ghost use Rattle.wire.specs.Digits.{is_digit, worth, bytes_of, NoDigit, AllDigits, Spelt, TextFault};
 
 use crate::lines::{LONGEST, Line};
+use arrayvec::ArrayVec;
 use refusals::LineFault;
 
 // As many bytes as the longest line spells.
 const ROOM: usize = 258;
 
 // The bytes of one frame.
-#[derive(Clone, Copy)]
+#[derive(Clone, Drop)]
 pub struct FrameBytes {
-    bytes: [u8; ROOM],
-    len: usize,
-    ghost within: { len ≤ 258 },
+    bytes: ArrayVec<u8, ROOM>,
 }
 
 impl FrameBytes {
     // No bytes yet.
     pub fn new() -> FrameBytes
-        ensures { take result.len result.bytes ≡ [] }
+        ensures { result.bytes.items ≡ [] }
     {
         FrameBytes {
-            bytes: [0; ROOM],
-            len: 0,
+            bytes: ArrayVec::new(),
         }
     }
 
     // The bytes that were decoded.
     pub fn bytes(&self) -> &[u8]
-        ensures { result.now ≡ take self.now.len self.now.bytes }
+        ensures { result.now ≡ self.now.bytes.items }
     {
-        &self.bytes[0..self.len]
+        self.bytes.as_slice()
     }
 }
 
@@ -56,33 +54,29 @@ fn value(character: u8) -> Option<u8>
 fn first_wrong(text: &[u8]) -> Option<usize>
     ensures { MatchOption result (AllDigits text.now) (First NoDigit text.now) }
 {
-    for (i, character) in text.iter().enumerate() {
-        if value(*character).is_none() {
-            return Some(i);
-        }
-    }
-    None
+    text.iter()
+        .position(|character| value(*character).is_none())
 }
 
 // The bytes that digits spell.
 fn spell(text: &[u8]) -> FrameBytes
     requires few { length text.now ≤ 516 }
     requires digits { AllDigits text.now }
-    ensures { take result.len result.bytes ≡ bytes_of text.now }
+    ensures { result.bytes.items ≡ bytes_of text.now }
 {
-    let len = text.len() / 2;
-    let mut bytes = [0; ROOM];
-    for i in 0..len {
-        let high = value(text[2 * i]).unwrap_or(0);
-        let low = value(text[2 * i + 1]).unwrap_or(0);
-        bytes[i] = 16 * high + low;
+    let mut bytes = ArrayVec::new();
+    let (pairs, _left_over) = text.as_chunks::<2>();
+    for [high, low] in pairs {
+        let high = value(*high).unwrap_or(0);
+        let low = value(*low).unwrap_or(0);
+        bytes.push(16 * high + low);
     }
-    FrameBytes { bytes, len }
+    FrameBytes { bytes }
 }
 
 // The bytes that a line spells.
 pub fn decode(line: Line) -> Result<FrameBytes, LineFault>
-    ensures { MatchResult result (λ b. Spelt line.entry.text.now line.entry.ended × (take b.len b.bytes ≡ bytes_of line.entry.text.now)) (TextFault line.entry.text.now line.entry.ended) }
+    ensures { MatchResult result (λ b. Spelt line.entry.text.now line.entry.ended × (b.bytes.items ≡ bytes_of line.entry.text.now)) (TextFault line.entry.text.now line.entry.ended) }
 {
     let text = line.text;
     if !line.ended || text.is_empty() || text.len() > LONGEST {

@@ -75,10 +75,10 @@ fn size<'a>(rest: &'a [u8]) -> Result<Frame<'a>, FrameFault>
 fn map<'a>(rest: &'a [u8]) -> Result<Frame<'a>, FrameFault>
     ensures { MatchResult result (Body Map rest.now) (BodyFault Map rest.now) }
 {
-    match <&'a [u8; 16]>::try_from(rest) {
-        Ok(classes) => Ok(Frame::Map { classes }),
-        Err(_) => Err(FrameFault::Fixed),
-    }
+    let Ok(classes) = <&'a [u8; 16]>::try_from(rest) else {
+        return Err(FrameFault::Fixed);
+    };
+    Ok(Frame::Map { classes })
 }
 
 // A rule: its automaton, its sense, its tally, and then its cells.

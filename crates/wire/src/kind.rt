@@ -1,9 +1,12 @@
 // The kinds of frame: what the first byte of a frame stands for.
 //
-// Proved: a byte gives the kind whose number it is, and none where no kind has that number.
-ghost use Rattle.std.specs.Prelude.{◌≡◌, MatchOption, ◌≢◌};
+// Proved: a byte gives the kind whose number it is, and is refused where no kind has that number.
+ghost use Rattle.std.specs.Prelude.{◌≡◌, MatchResult, ◌≢◌};
+ghost use Rattle.refusals.specs.declared.FrameFault.TheVariants as faults;
 ghost use Rattle.wire.specs.declared.kind.Kind.{Kind};
 ghost use Rattle.wire.specs.Kinds.{kind_number};
+
+use refusals::FrameFault;
 
 // What a frame is about.
 #[derive(Clone, Copy, PartialEq, Eq, Debug)]
@@ -36,26 +39,28 @@ pub enum Kind {
     Publish,
 }
 
-impl Kind {
-    // The kind that a byte stands for.
-    pub fn of(byte: u8) -> Option<Kind>
-        ensures { MatchOption result ((k : Kind) → kind_number k ≢ byte) (λ k. kind_number k ≡ byte) }
-    {
+// The kind that a byte stands for.
+impl TryFrom<u8> for Kind {
+    type Error = FrameFault;
+
+    ghost try_from_gives = { λ byte r. MatchResult r (λ k. kind_number k ≡ byte) (λ e. ((k : Kind) → kind_number k ≢ byte) × (e ≡ faults.Kind)) };
+
+    fn try_from(byte: u8) -> Result<Kind, FrameFault> {
         match byte {
-            0x01 => Some(Kind::Size),
-            0x02 => Some(Kind::Masks),
-            0x03 => Some(Kind::Among),
-            0x04 => Some(Kind::Word),
-            0x05 => Some(Kind::Table),
-            0x06 => Some(Kind::Map),
-            0x07 => Some(Kind::Rule),
-            0x08 => Some(Kind::Start),
-            0x09 => Some(Kind::Decide),
-            0x0a => Some(Kind::Bound),
-            0x0b => Some(Kind::Mark),
-            0x0c => Some(Kind::Back),
-            0x0d => Some(Kind::Publish),
-            _ => None,
+            0x01 => Ok(Kind::Size),
+            0x02 => Ok(Kind::Masks),
+            0x03 => Ok(Kind::Among),
+            0x04 => Ok(Kind::Word),
+            0x05 => Ok(Kind::Table),
+            0x06 => Ok(Kind::Map),
+            0x07 => Ok(Kind::Rule),
+            0x08 => Ok(Kind::Start),
+            0x09 => Ok(Kind::Decide),
+            0x0a => Ok(Kind::Bound),
+            0x0b => Ok(Kind::Mark),
+            0x0c => Ok(Kind::Back),
+            0x0d => Ok(Kind::Publish),
+            _ => Err(FrameFault::Kind),
         }
     }
 }

@@ -5,9 +5,11 @@
 // line which is too long still shows that it is.
 //
 // Proved: in whatever chunks a line is read, the buffer holds its first 517 characters.
-ghost use Rattle.std.specs.Prelude.{◌≡◌, ◌≤◌, [], length, take, MatchOption, ◌==◌};
+ghost use Rattle.std.specs.Prelude.{◌≡◌, [], ◌++◌, length, take, MatchOption, ◌==◌};
 ghost use Rattle.refusals.specs.First.{First};
 ghost use Rattle.wire.specs.Lines.{pushed, newline, Without, Grown};
+
+use arrayvec::ArrayVec;
 
 // The most characters that a line may have before its newline.
 pub const LONGEST: usize = 516;
@@ -22,69 +24,74 @@ pub struct Line<'a> {
     pub ended: bool,
 }
 
+// The first newline of a chunk.
+fn first_newline(chunk: &[u8]) -> Option<usize>
+    ensures { MatchOption result (Without chunk.now) (First (λ c. c ≡ newline) chunk.now) }
+{
+    chunk.iter().position(|character| *character == b'\n')
+}
+
 // The beginning of the line that is being read.
 #[derive(Drop)]
 pub struct LineBuffer {
-    text: [u8; KEPT],
-    len: usize,
-    ghost within: { len ≤ 517 },
+    text: ArrayVec<u8, KEPT>,
 }
 
 impl LineBuffer {
     // An empty buffer.
     pub fn new() -> LineBuffer
-        ensures { take result.len result.text ≡ [] }
+        ensures { result.text.items ≡ [] }
     {
         LineBuffer {
-            text: [0; KEPT],
-            len: 0,
+            text: ArrayVec::new(),
         }
     }
 
     // One character more.
     pub fn push(&mut self, character: u8)
-        ensures { take self.new.len self.new.text ≡ pushed (take self.old.len self.old.text) character }
+        ensures { self.new.text.items ≡ pushed self.old.text.items character }
     {
-        if self.len < KEPT {
-            self.text[self.len] = character;
-            self.len += 1;
-        }
+        self.keep(&[character]);
     }
 
-    // The characters of a chunk up to its first newline, one by one. Answers where that newline is.
-    pub fn extend(&mut self, chunk: &[u8]) -> Option<usize>
-        ensures { MatchOption result (Without chunk.now × Grown (take self.old.len self.old.text) (take self.new.len self.new.text) chunk.now) (λ k. First (λ c. c ≡ newline) chunk.now k × Grown (take self.old.len self.old.text) (take self.new.len self.new.text) (take k chunk.now)) }
+    // What fits of a part of the line.
+    fn keep(&mut self, part: &[u8])
+        ensures { self.new.text.items ≡ take 517 (self.old.text.items ++ part.now) }
     {
-        for (i, character) in chunk.iter().enumerate() {
-            if *character == b'\n' {
-                return Some(i);
-            }
-            self.push(*character);
-        }
-        None
+        let room = self.text.remaining_capacity().min(part.len());
+        let _fits = self.text.try_extend_from_slice(&part[..room]);
+    }
+
+    // The characters of a chunk up to its first newline. Answers where that newline is.
+    pub fn extend(&mut self, chunk: &[u8]) -> Option<usize>
+        ensures { MatchOption result (Without chunk.now × Grown self.old.text.items self.new.text.items chunk.now) (λ k. First (λ c. c ≡ newline) chunk.now k × Grown self.old.text.items self.new.text.items (take k chunk.now)) }
+    {
+        let end = first_newline(chunk);
+        self.keep(&chunk[..end.unwrap_or(chunk.len())]);
+        end
     }
 
     // Empties the buffer for the next line.
     pub fn clear(&mut self)
-        ensures { take self.new.len self.new.text ≡ [] }
+        ensures { self.new.text.items ≡ [] }
     {
-        self.len = 0;
+        self.text.clear();
     }
 
     // Whether the line has no character so far.
     pub fn is_empty(&self) -> bool
-        ensures { result ≡ (length (take self.now.len self.now.text) == 0) }
+        ensures { result ≡ (length self.now.text.items == 0) }
     {
-        self.len == 0
+        self.text.is_empty()
     }
 
     // The line so far, with or without its newline.
     pub fn line(&self, ended: bool) -> Line<'_>
-        ensures text { result.text.now ≡ take self.now.len self.now.text }
+        ensures text { result.text.now ≡ self.now.text.items }
         ensures ended { result.ended ≡ ended }
     {
         Line {
-            text: &self.text[0..self.len],
+            text: self.text.as_slice(),
             ended,
         }
     }

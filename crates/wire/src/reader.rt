@@ -3,9 +3,9 @@
 // Proved: what is read is what the line spells, with the phase that the order gives. Of several
 // things wrong, the one that is answered is the first in this order: the line, a digit, the kind, the
 // order, the length of a fixed part, the number of cells.
-ghost use Rattle.std.specs.Prelude.{◌≡◌, MatchOption, MatchResult};
+ghost use Rattle.std.specs.Prelude.{◌≡◌, MatchResult};
 ghost use Rattle.wire.specs.Digits.{Spelt, bytes_of};
-ghost use Rattle.wire.specs.Reading.{Begins, NoKind, Reads, Refused, LineRefused, numbered};
+ghost use Rattle.wire.specs.Reading.{Reads, Refused, LineRefused, numbered};
 
 use crate::digits::{FrameBytes, decode};
 use crate::frame::{Frame, parse};
@@ -14,25 +14,16 @@ use crate::lines::Line;
 use crate::order::{Phase, next};
 use refusals::{FileFault, FrameFault, LineFault};
 
-// The kind of the frame that begins so.
-fn first_kind(bytes: &[u8]) -> Option<Kind>
-    ensures { MatchOption result (NoKind bytes.now) (Begins bytes.now) }
-{
-    match bytes {
-        [first, ..] => Kind::of(*first),
-        [] => None,
-    }
-}
-
 // The frame that bytes show, and the phase after it.
 pub fn read_frame<'a>(phase: Phase, bytes: &'a [u8]) -> Result<(Phase, Frame<'a>), FrameFault>
     ensures { MatchResult result (λ x. Reads phase bytes.now x.0 x.1) (Refused phase bytes.now) }
 {
-    let Some(kind) = first_kind(bytes) else {
+    let [first, rest @ ..] = bytes else {
         return Err(FrameFault::Kind);
     };
+    let kind = Kind::try_from(*first)?;
     let after = next(phase, kind)?;
-    let frame = parse(kind, &bytes[1..])?;
+    let frame = parse(kind, rest)?;
     Ok((after, frame))
 }
 
@@ -53,8 +44,5 @@ pub fn read_line<'a>(
 pub fn at_line<T>(line: u64, answer: Result<T, LineFault>) -> Result<T, FileFault>
     ensures { result ≡ numbered line answer }
 {
-    match answer {
-        Ok(read) => Ok(read),
-        Err(fault) => Err(FileFault { line, fault }),
-    }
+    answer.map_err(|fault| FileFault { line, fault })
 }

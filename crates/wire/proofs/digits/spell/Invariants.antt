@@ -1,6 +1,7 @@
-use Rattle.std.proofs.Common.{◌≡◌, ℕ, ◌<◌, length, get_or}
+use Rattle.std.proofs.Common.{◌≡◌, map}
+use Rattle.std.specs.List.{range_with_len}
 use Rattle.wire.specs.Digits.{byte_at}
 use Rattle.wire.proofs.digits.spell.Given as goal
 
-abbrev pub invariant-loop-i : goal.invariant-loop-i
-invariant-loop-i l = (length l.bytes ≡ 258) × ((k : ℕ) → k < l.i → get_or l.bytes k 0 ≡ byte_at l.text k)
+abbrev pub invariant-loop-high : goal.invariant-loop-high
+invariant-loop-high l = l.bytes.items ≡ map (byte_at l.text) (range_with_len 0 l.high-index)
