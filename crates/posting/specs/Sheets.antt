@@ -43,7 +43,7 @@ abbrev pub written : Rule → Written
 written r = record { cells = vec_items r.row.cells; sense = r.sense; tally = r.tally }
 
 abbrev pub duties_of : Word → List ℕ
-duties_of w = take w.len w.duties
+duties_of w = w.duties.items
 
 abbrev pub steps_of : KeptTable → Steps
 steps_of k = record { states = k.states; bytes = take (16 * k.states) k.bytes }
