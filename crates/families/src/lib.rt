@@ -15,12 +15,16 @@ ghost use Rattle.families.specs.Masks.{values_lost};
 ghost use Rattle.families.specs.Meaning.{Meaning, ran, figured, start_of, pair, workspace_needed, most_rules};
 ghost use Rattle.families.specs.Laws.{Lawful};
 ghost use Rattle.families.specs.Pairs.{pair_lawful};
+ghost use Rattle.families.specs.Parts.{PartOf};
 
 use measures::Figures;
 use refusals::PostFault;
 
 // How many numbers of workspace a run takes, and likewise figures.
 pub const WORKSPACE: usize = 4160;
+
+// How many rules a family has at most.
+pub const MOST_RULES: usize = 72;
 
 pub trait Family {
     ghost meaning: { Self → Meaning };
@@ -54,17 +58,18 @@ pub trait Family {
         ensures left_alone { ((meaning self.now).rules ≤ rule) ⊎ (length workspace.old < workspace_needed) → workspace.new ≡ workspace.old };
 }
 
-// Whether two families can be joined: a pair has at most 72 rules.
+// Whether two families can be joined: a pair is a family, and has no more rules than one.
 pub fn check_pair<F: Family, G: Family>(first: &F, second: &G) -> Result<(), PostFault>
     ensures { MatchResult result (λ _. (F.Family.meaning first.now).rules + (G.Family.meaning second.now).rules ≤ most_rules) (λ e. (e ≡ TooManyRules) × (most_rules < (F.Family.meaning first.now).rules + (G.Family.meaning second.now).rules)) }
 {
-    if first.rule_count() + second.rule_count() > 72 {
+    if first.rule_count() + second.rule_count() > MOST_RULES {
         return Err(PostFault::TooManyRules);
     }
     Ok(())
 }
 
-// Two families as one, the first's rules numbered first. Made past `check_pair`, it has the first 72.
+// Two families as one, the first's rules numbered first. Made past `check_pair`, it has as many of the
+// first as a family has at most.
 #[derive(Drop)]
 pub struct Pair<F, G> {
     first: F,
@@ -79,23 +84,42 @@ impl<F, G> Pair<F, G> {
     }
 }
 
+// Which part of a pair has a rule, and its number there.
+enum Part {
+    First(usize),
+    Second(usize),
+    Neither,
+}
+
+impl<F: Family, G: Family> Pair<F, G> {
+    fn part(&self, rule: usize) -> Part
+        ensures { PartOf (F.Family.meaning self.now.first) rule result }
+    {
+        let n = self.first.rule_count();
+        if rule >= MOST_RULES {
+            Part::Neither
+        } else if rule < n {
+            Part::First(rule)
+        } else {
+            Part::Second(rule - n)
+        }
+    }
+}
+
 impl<F: Family, G: Family> Family for Pair<F, G> {
     ghost meaning = { λ p. pair (F.Family.meaning p.first) (G.Family.meaning p.second) };
 
     ghost lawful = { λ p. pair_lawful (F.Family.meaning p.first) (G.Family.meaning p.second) (F.Family.lawful p.first) (G.Family.lawful p.second) };
 
     fn rule_count(&self) -> usize {
-        (self.first.rule_count() + self.second.rule_count()).min(72)
+        (self.first.rule_count() + self.second.rule_count()).min(MOST_RULES)
     }
 
     fn start_tally(&self, rule: usize) -> u64 {
-        let n = self.first.rule_count();
-        if rule >= 72 {
-            0
-        } else if rule < n {
-            self.first.start_tally(rule)
-        } else {
-            self.second.start_tally(rule - n)
+        match self.part(rule) {
+            Part::First(n) => self.first.start_tally(n),
+            Part::Second(n) => self.second.start_tally(n),
+            Part::Neither => 0,
         }
     }
 
@@ -106,24 +130,18 @@ impl<F: Family, G: Family> Family for Pair<F, G> {
         tally: &mut u64,
         workspace: &mut [u64],
     ) -> u32 {
-        let n = self.first.rule_count();
-        if rule >= 72 {
-            0
-        } else if rule < n {
-            self.first.run(rule, cells, tally, workspace)
-        } else {
-            self.second.run(rule - n, cells, tally, workspace)
+        match self.part(rule) {
+            Part::First(n) => self.first.run(n, cells, tally, workspace),
+            Part::Second(n) => self.second.run(n, cells, tally, workspace),
+            Part::Neither => 0,
         }
     }
 
     fn figures(&self, rule: usize, cells: &[u16; 192], workspace: &mut [u64]) -> Option<Figures> {
-        let n = self.first.rule_count();
-        if rule >= 72 {
-            None
-        } else if rule < n {
-            self.first.figures(rule, cells, workspace)
-        } else {
-            self.second.figures(rule - n, cells, workspace)
+        match self.part(rule) {
+            Part::First(n) => self.first.figures(n, cells, workspace),
+            Part::Second(n) => self.second.figures(n, cells, workspace),
+            Part::Neither => None,
         }
     }
 }
