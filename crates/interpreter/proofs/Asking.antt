@@ -54,14 +54,14 @@ ok_same h = ap (λ (r : Result ℕ PlanFault). value (held r)) h
 
 module _ (m : Meaning) (p : View) where
   pub cell_answer : (i w : ℕ) (r : Result ℕ PlanFault) → i < 192 → Step m p (ask (of_cell i) w) (held r) p → r ≡ Ok (get_or p.now.cells i 0)
-  cell_answer i w (Ok x) h s = ap Ok (ap value (step_one m p s (cell_held m p p.now refl i w h)).0)
-  cell_answer i w (Err e) h s = absurd (apart (step_one m p s (cell_held m p p.now refl i w h)).0 refl refl)
+  cell_answer i w (Ok x) h s = ap Ok (ap value (step_one m p s (cell_held m p i w h)).0)
+  cell_answer i w (Err e) h s = absurd (apart (step_one m p s (cell_held m p i w h)).0 refl refl)
 
   pub tally_answer : (r w : ℕ) (x : ℕ) → Step m p (ask (of_tally r) w) (held (Ok x)) p → (r < m.rules) × (x ≡ get_or p.now.tallies r 0)
-  tally_answer r w x s = ⊎_elim (λ h. (h, ap value (step_one m p s (tally_held m p p.now refl r w h)).0)) (λ h. absurd (apart (step_one m p (no_tally m p r w h) s).0 refl refl)) (cases_lt r m.rules)
+  tally_answer r w x s = ⊎_elim (λ h. (h, ap value (step_one m p s (tally_held m p r w h)).0)) (λ h. absurd (apart (step_one m p (no_tally m p r w h) s).0 refl refl)) (cases_lt r m.rules)
 
   pub tally_refused : (r w : ℕ) (e : PlanFault) → Step m p (ask (of_tally r) w) (held (Err e)) p → m.rules ≤ r
-  tally_refused r w e s = ⊎_elim (λ h. absurd (apart (step_one m p s (tally_held m p p.now refl r w h)).0 refl refl)) (λ h. h) (cases_lt r m.rules)
+  tally_refused r w e s = ⊎_elim (λ h. absurd (apart (step_one m p s (tally_held m p r w h)).0 refl refl)) (λ h. h) (cases_lt r m.rules)
 
   pub figures_answer : (r w : ℕ) (o : Option Figures) → r < m.rules → Step m p (ask (of_figures r) w) (figured (Ok o)) p → o ≡ cond p.void None ((m.rule r).figures p.now.cells)
   figures_answer r w o h s =

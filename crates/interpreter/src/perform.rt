@@ -49,10 +49,10 @@ pub fn call_all<'a>(
     told: &mut [Told],
     workspace: &mut [u64],
 ) -> usize
-    ensures same { (plan.new.size ≡ plan.old.size) × (plan.new.plan.family ≡ plan.old.plan.family) }
+    ensures same { (plan.new.size ≡ plan.old.size) × (plan.new.plan.held.family ≡ plan.old.plan.held.family) }
     ensures stops { Stops calls.now (length told.old) result }
     ensures beyond { (k : ℕ) (d : Told) → result ≤ k → slice_index_or told.new k d ≡ slice_index_or told.old k d }
-    ensures made { Makes (rules_meaning plan.old.plan.family) plan.old.size (length workspace.old) (view plan.old.plan) (take result calls.now) (take result told.new) (view plan.new.plan) }
+    ensures made { Makes (rules_meaning plan.old.plan.held.family) plan.old.size (length workspace.old) (view plan.old.plan) (take result calls.now) (take result told.new) (view plan.new.plan) }
 {
     let number = calls.len().min(told.len());
     for i in 0..number {

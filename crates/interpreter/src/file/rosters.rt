@@ -8,7 +8,7 @@ use super::{CellLine, FileRoster, RuleLine};
 impl<'a> FileRoster<'a> {
     // One of the file's cells and its mask; none past the last.
     pub fn cell(&self, cell: usize) -> Option<CellLine>
-        ensures { MatchOption result (self.now.size ≤ cell) (λ t. (cell < self.now.size) × (t.cell ≡ cell) × (t.mask ≡ slice_index self.now.roster.masks.cells cell)) }
+        ensures { MatchOption result (self.now.size ≤ cell) (λ t. (cell < self.now.size) × (t.cell ≡ cell) × (t.mask ≡ slice_index self.now.roster.held.masks.cells cell)) }
     {
         if cell >= self.size as usize {
             return None;
@@ -22,7 +22,7 @@ impl<'a> FileRoster<'a> {
     // One of the rules, its tally and its figures; none past the last, or on a short workspace.
     pub fn rule(&self, rule: usize, workspace: &mut [u64]) -> Option<RuleLine>
         ensures left_alone { result ≡ None → workspace.new ≡ workspace.old }
-        ensures told { MatchOption result (((rules_meaning self.now.roster.family).rules ≤ rule) ⊎ (length workspace.old < workspace_needed)) (λ t. (rule < (rules_meaning self.now.roster.family).rules) × (t.rule ≡ rule) × (t.tally ≡ slice_index self.now.roster.masks.tallies rule) × (t.figures ≡ (if self.now.roster.void then None else ((rules_meaning self.now.roster.family).rule rule).figures self.now.roster.masks.cells))) }
+        ensures told { MatchOption result (((rules_meaning self.now.roster.held.family).rules ≤ rule) ⊎ (length workspace.old < workspace_needed)) (λ t. (rule < (rules_meaning self.now.roster.held.family).rules) × (t.rule ≡ rule) × (t.tally ≡ slice_index self.now.roster.held.masks.tallies rule) × (t.figures ≡ (if self.now.roster.held.void then None else ((rules_meaning self.now.roster.held.family).rule rule).figures self.now.roster.held.masks.cells))) }
     {
         let Ok(tally) = self.roster.tally(rule) else {
             return None;

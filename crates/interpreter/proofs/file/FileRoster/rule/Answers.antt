@@ -10,14 +10,14 @@ use Rattle.interpreter.proofs.file.FileRoster.rule.Goals as goal
 
 pub returns-in_default : goal.returns-in_default
 returns-in_default c =
-    let m = rules_meaning c.args.self.now.roster.family in
+    let m = rules_meaning c.args.self.now.roster.held.family in
     let p = read c.args.self.now.roster in
     let r = c.args.rule in
     record { left_alone = λ h. refl; told = inl (tally_refused m p r 0 c.in_default.field-0 (subst (λ (x : Result ℕ PlanFault). Step m p (ask (of_tally r) 0) (held x) p) c.in_default.is (c.tally.ensures 0).step)) }
 
 pub returns-in-Ok-figures : goal.returns-in-Ok-figures
 returns-in-Ok-figures c =
-    let m = rules_meaning c.args.self.now.roster.family in
+    let m = rules_meaning c.args.self.now.roster.held.family in
     let p = read c.args.self.now.roster in
     let r = c.args.rule in
     let w = length c.args.workspace.now in
@@ -26,7 +26,7 @@ returns-in-Ok-figures c =
 
 pub returns-in-Err : goal.returns-in-Err
 returns-in-Err c =
-    let m = rules_meaning c.args.self.now.roster.family in
+    let m = rules_meaning c.args.self.now.roster.held.family in
     let p = read c.args.self.now.roster in
     let r = c.args.rule in
     let w = length c.args.workspace.now in
