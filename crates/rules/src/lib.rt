@@ -22,11 +22,13 @@ pub enum Sense {
     Exactly,
 }
 
-impl Sense {
-    // The sense that a number stands for.
-    pub fn from_number(number: u8) -> Result<Sense, PostFault>
-        ensures { MatchResult result (λ s. sense_number s ≡ number) (SenseFault number) }
-    {
+// The sense that a number stands for.
+impl TryFrom<u8> for Sense {
+    type Error = PostFault;
+
+    ghost try_from_gives = { λ number r. MatchResult r (λ s. sense_number s ≡ number) (SenseFault number) };
+
+    fn try_from(number: u8) -> Result<Sense, PostFault> {
         match number {
             0 => Ok(Sense::AtMost),
             1 => Ok(Sense::AtLeast),
@@ -36,24 +38,12 @@ impl Sense {
     }
 }
 
-// The first cell that is not below the limit.
-fn first_beyond(cells: &[u8], limit: usize) -> Option<usize>
-    ensures { MatchOption result ((i : ℕ) → i < length cells.now → slice_index cells.now i < limit) (First (λ c. limit ≤ c) cells.now) }
-{
-    for (i, cell) in cells.iter().enumerate() {
-        if *cell as usize >= limit {
-            return Some(i);
-        }
-    }
-    None
-}
-
 // The first cell that stood before.
 fn first_repeat(cells: &[u8]) -> Option<usize>
     ensures { MatchOption result ((i : ℕ) → i < length cells.now → StoodBefore cells.now i → ⊥) (λ i. (i < length cells.now) × StoodBefore cells.now i × ((j : ℕ) → j < i → StoodBefore cells.now j → ⊥)) }
 {
-    for i in 0..cells.len() {
-        if cells[0..i].contains(&cells[i]) {
+    for (i, cell) in cells.iter().enumerate() {
+        if cells[..i].contains(cell) {
             return Some(i);
         }
     }
@@ -69,13 +59,13 @@ fn check_row(cells: &[u8], limit: usize) -> Result<(), PostFault>
             place: cells.len().min(64),
         });
     }
-    if let Some(place) = first_beyond(cells, limit) {
+    if let Some(place) = cells.iter().position(|cell| *cell as usize >= limit) {
         return Err(PostFault::Cell { place });
     }
-    if let Some(place) = first_repeat(cells) {
-        return Err(PostFault::Repeated { place });
+    match first_repeat(cells) {
+        Some(place) => Err(PostFault::Repeated { place }),
+        None => Ok(()),
     }
-    Ok(())
 }
 
 // The cells that a rule reads, in order: 1 to 64 different ones of the 192.
