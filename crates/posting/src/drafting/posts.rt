@@ -26,7 +26,7 @@ impl FileDraft {
         ensures { MatchResult result (λ _. RulePosted automaton sense tally cells.now (sheet_of self.old) (sheet_of self.new)) (λ e. (sheet_of self.new ≡ sheet_of self.old) × NoRule automaton sense tally cells.now (sheet_of self.old) e) }
     {
         let row = Row::new(heap, cells, self.size as usize)?;
-        let sense = Sense::from_number(sense)?;
+        let sense = Sense::try_from(sense)?;
         let counter = Counter::from_number(automaton)?;
         let rule = Rule::new(row, sense, tally)?;
         match counter {
