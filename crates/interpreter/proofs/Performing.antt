@@ -103,7 +103,7 @@ rules_lawful p =
     pair_lawful _ _
     (pair_lawful _ _
     (family_lawful _ (among_lawful set.automaton.set) (vec_items set.rules) set.few)
-    (family_lawful _ (mapped_lawful word.automaton.classes _ (counting_lawful (duties_of below) below.len below.whole below.some below.few)) (vec_items word.rules) word.few))
+    (family_lawful _ (mapped_lawful word.automaton.classes _ (counting_lawful (duties_of below) (length (duties_of below)) refl below.some below.few)) (vec_items word.rules) word.few))
     (family_lawful _ (table_lawful table.automaton.states table.automaton.steps.now) (vec_items table.rules) table.few)
 
 -- what the frames made, with the sheet's own rules and number of cells, on as long a workspace
