@@ -12,3 +12,4 @@ pub mod Meeting
 pub mod Judged
 pub mod Listed
 pub mod Putting
+pub mod Sides

@@ -1,5 +1,6 @@
 -- What the codes of the sweeps of a run hold, and the counts that they say are met.
 use Rattle.std.specs.Prelude.{◌≡◌, ℕ, ◌+◌, ◌*◌, ◌<◌, ◌≤◌, List, length, slice_index}
+use Rattle.std.proofs.Props.{props}
 use Rattle.automata.specs.Automaton.{Automaton}
 use Rattle.measures.specs.Measuring.{Measuring}
 use Rattle.measures.specs.Kinds.{least, greatest}
@@ -8,7 +9,6 @@ use Rattle.sweeps.specs.Sequences.{From}
 use Rattle.sweeps.specs.Sweep.{forward_at, backward_at}
 use Rattle.rules.specs.declared.Sense.{Sense}
 use Rattle.rules.specs.declared.Sense.TheVariants.{AtMost, AtLeast, Exactly}
-use Rattle.runs.specs.declared.Swept.{Swept}
 use Rattle.runs.specs.declared.Ways.{Ways}
 use Rattle.runs.specs.Stays.{Around, joined, Between, EndsBetween}
 
@@ -26,9 +26,10 @@ Needed AtMost a masks l g = BothWays least a masks l.forth.now l.back.now
 Needed AtLeast a masks l g = BothWays greatest a masks g.forth.now g.back.now
 Needed Exactly a masks l g = BothWays least a masks l.forth.now l.back.now × BothWays greatest a masks g.forth.now g.back.now
 
-pub record Ready (a : Automaton) (s : Swept) : Type 0 where
-  pub few : length s.masks.now ≤ 64
-  pub swept : Needed s.sense a s.masks.now s.least s.greatest
+pub needed_prop : (s : Sense) (a : Automaton) (masks : List ℕ) (l g : Ways) → IsProp (Needed s a masks l g)
+needed_prop AtMost a masks l g = hlevel props
+needed_prop AtLeast a masks l g = hlevel props
+needed_prop Exactly a masks l g = hlevel props
 
 -- count k is met by way of state q and duty d at place i
 abbrev pub MetThrough : Sense → Automaton → List ℕ → ℕ → ℕ → ℕ → ℕ → Type 0

@@ -11,16 +11,20 @@
 ghost use Rattle.std.specs.Prelude.{◌≡◌, ℕ, ◌+◌, ◌-◌, ◌*◌, ◌^◌, ◌<◌, ◌≤◌, min, false, length, take, if◌then◌else◌, Decides, MatchResult, nat_eq, slice_index};
 ghost use Rattle.masks.specs.Bit.{In, has};
 ghost use Rattle.masks.specs.Members.{lost};
-ghost use Rattle.automata.specs.Automaton.{Automaton};
 ghost use Rattle.families.specs.Masks.{values_lost};
-ghost use Rattle.runs.specs.Codes.{BothWays, Ready, MetThrough, MetAtEnd};
+ghost use Rattle.runs.specs.Codes.{BothWays, Needed, needed_prop, MetThrough, MetAtEnd};
 ghost use Rattle.runs.specs.Run.{along, put, kept, leaves, RuleRan, NotRun};
 ghost use Rattle.runs.specs.Stays.{DutyStays, CountStays};
 
+use arrayvec::ArrayVec;
 use automata::CounterAutomaton;
+use families::WORKSPACE;
 use measures::{Greatest, Least, Measure};
 use refusals::PlanFault;
 use rules::{Row, Rule, Sense};
+
+// How many codes one sweep writes at most: of 16 states at each of 64 places, and at the end.
+const CODES: usize = 1040;
 
 // The codes of the two sweeps of one measure.
 #[derive(Clone, Copy)]
@@ -38,13 +42,16 @@ impl<'a> Ways<'a> {
     }
 }
 
-// What a run judges by: the sense, the masks at entry along the row, and the sweeps over them that the sense needs.
-#[derive(Clone, Copy)]
-struct Swept<'a> {
+// What a run judges by: the automaton, the sense, the masks at entry along the row, and the sweeps over them that the sense needs.
+#[derive(Drop)]
+struct Swept<'a, C: CounterAutomaton> {
+    automaton: &'a C,
     sense: Sense,
     masks: &'a [u16],
     least: Ways<'a>,
     greatest: Ways<'a>,
+    ghost few: { length masks.now ≤ 64 },
+    ghost swept: { Needed sense (C.CounterAutomaton.meaning automaton.now) masks.now least greatest } by { needed_prop sense (C.CounterAutomaton.meaning automaton.now) masks.now least greatest },
 }
 
 // The counts from a least total on; none where the code says that there is no total.
@@ -72,14 +79,13 @@ fn overlap(counts: u64, tally: u64) -> bool
     counts & tally != 0
 }
 
-// The masks in the cells of a row, in the row's order, and then zeros.
-pub fn gather(row: &Row, cells: &[u16; 192]) -> [u16; 64]
-    ensures zeros_behind { (i : ℕ) → length row.now.cells.items ≤ i → slice_index result i ≡ 0 }
-    ensures in_front { take (length row.now.cells.items) result ≡ along row.now.cells.items cells.now }
+// The masks in the cells of a row, in the row's order.
+pub fn gather(row: &Row, cells: &[u16; 192]) -> ArrayVec<u16, 64>
+    ensures { result.items ≡ along row.now.cells.items cells.now }
 {
-    let mut masks = [0; 64];
-    for (i, cell) in row.cells().iter().enumerate() {
-        masks[i] = cells[*cell as usize];
+    let mut masks = ArrayVec::new();
+    for cell in row.cells() {
+        masks.push(cells[*cell as usize]);
     }
     masks
 }
@@ -125,14 +131,22 @@ fn greatest_total(ways: &Ways, before: usize, increase: u64, behind: usize) -> u
     }
 }
 
-impl<'a> Swept<'a> {
-    fn new(sense: Sense, masks: &'a [u16], least: Ways<'a>, greatest: Ways<'a>) -> Swept<'a>
+impl<'a, C: CounterAutomaton> Swept<'a, C> {
+    fn new(
+        automaton: &'a C,
+        sense: Sense,
+        masks: &'a [u16],
+        least: Ways<'a>,
+        greatest: Ways<'a>,
+    ) -> Swept<'a, C>
+        requires few { length masks.now ≤ 64 }
+        requires swept { Needed sense (C.CounterAutomaton.meaning automaton.now) masks.now least greatest }
+        ensures automaton { result.automaton.now ≡ automaton.now }
         ensures sense { result.sense ≡ sense }
         ensures masks { result.masks.now ≡ masks.now }
-        ensures least { result.least ≡ least.entry }
-        ensures greatest { result.greatest ≡ greatest.entry }
     {
         Swept {
+            automaton,
             sense,
             masks,
             least,
@@ -142,9 +156,9 @@ impl<'a> Swept<'a> {
 
     // Whether some sequence comes to a state at a place.
     fn is_reached(&self, place: usize, state: usize) -> bool
-        requires ready { (a : Automaton) × Ready a self.now × (a.states ≤ 16) × (state < a.states) }
         requires place { place < length self.now.masks.now }
-        ensures { result ≡ false → (a : Automaton) → Ready a self.now → state < a.states → (d k : ℕ) → k < 64 → MetThrough self.now.sense a self.now.masks.now place state d k → ⊥ }
+        requires state { state < (C.CounterAutomaton.meaning self.now.automaton.now).states }
+        ensures { result ≡ false → (d k : ℕ) → k < 64 → MetThrough self.now.sense (C.CounterAutomaton.meaning self.now.automaton.now) self.now.masks.now place state d k → ⊥ }
     {
         let index = 16 * place + state;
         match self.sense {
@@ -154,19 +168,12 @@ impl<'a> Swept<'a> {
     }
 
     // The counts that are met by way of a state and a duty at a place.
-    fn met_through<C: CounterAutomaton>(
-        &self,
-        automaton: &C,
-        place: usize,
-        state: usize,
-        duty: usize,
-    ) -> u64
-        requires ready { Ready (C.CounterAutomaton.meaning automaton.now) self.now }
+    fn met_through(&self, place: usize, state: usize, duty: usize) -> u64
         requires place { place < length self.now.masks.now }
-        requires state { state < (C.CounterAutomaton.meaning automaton.now).states }
-        ensures { (k : ℕ) → k < 64 → Decides (has result k) (MetThrough self.now.sense (C.CounterAutomaton.meaning automaton.now) self.now.masks.now place state duty k) }
+        requires state { state < (C.CounterAutomaton.meaning self.now.automaton.now).states }
+        ensures { (k : ℕ) → k < 64 → Decides (has result k) (MetThrough self.now.sense (C.CounterAutomaton.meaning self.now.automaton.now) self.now.masks.now place state duty k) }
     {
-        let (next, increase) = automaton.step(state, duty);
+        let (next, increase) = self.automaton.step(state, duty);
         let before = 16 * place + state;
         let behind = 16 * place + 16 + next;
         match self.sense {
@@ -185,10 +192,9 @@ impl<'a> Swept<'a> {
     }
 
     // The counts that are met by sequences that end in a state.
-    fn met_at_end<C: CounterAutomaton>(&self, automaton: &C, state: usize) -> u64
-        requires ready { Ready (C.CounterAutomaton.meaning automaton.now) self.now }
-        requires state { state < (C.CounterAutomaton.meaning automaton.now).states }
-        ensures { (k : ℕ) → k < 64 → Decides (has result k) (MetAtEnd self.now.sense (C.CounterAutomaton.meaning automaton.now) self.now.masks.now state k) }
+    fn met_at_end(&self, state: usize) -> u64
+        requires state { state < (C.CounterAutomaton.meaning self.now.automaton.now).states }
+        ensures { (k : ℕ) → k < 64 → Decides (has result k) (MetAtEnd self.now.sense (C.CounterAutomaton.meaning self.now.automaton.now) self.now.masks.now state k) }
     {
         let end = 16 * self.masks.len() + state;
         match self.sense {
@@ -200,22 +206,15 @@ impl<'a> Swept<'a> {
     }
 
     // Whether a duty stays at a place.
-    fn duty_stays<C: CounterAutomaton>(
-        &self,
-        automaton: &C,
-        tally: u64,
-        place: usize,
-        duty: usize,
-    ) -> bool
-        requires ready { Ready (C.CounterAutomaton.meaning automaton.now) self.now }
+    fn duty_stays(&self, tally: u64, place: usize, duty: usize) -> bool
         requires place { place < length self.now.masks.now }
         requires duty { duty < 16 }
         requires held { In (slice_index self.now.masks.now place) duty }
-        ensures { Decides result (DutyStays (C.CounterAutomaton.meaning automaton.now) self.now.masks.now self.now.sense tally place duty) }
+        ensures { Decides result (DutyStays (C.CounterAutomaton.meaning self.now.automaton.now) self.now.masks.now self.now.sense tally place duty) }
     {
-        for state in 0..automaton.states() {
+        for state in 0..self.automaton.states() {
             if self.is_reached(place, state)
-                && overlap(self.met_through(automaton, place, state, duty), tally)
+                && overlap(self.met_through(place, state, duty), tally)
             {
                 return true;
             }
@@ -224,14 +223,13 @@ impl<'a> Swept<'a> {
     }
 
     // The duties that stay at a place.
-    fn kept_duties<C: CounterAutomaton>(&self, automaton: &C, tally: u64, place: usize) -> u16
-        requires ready { Ready (C.CounterAutomaton.meaning automaton.now) self.now }
+    fn kept_duties(&self, tally: u64, place: usize) -> u16
         requires place { place < length self.now.masks.now }
-        ensures { result ≡ kept (C.CounterAutomaton.meaning automaton.now) self.now.sense tally self.now.masks.now place }
+        ensures { result ≡ kept (C.CounterAutomaton.meaning self.now.automaton.now) self.now.sense tally self.now.masks.now place }
     {
         let mut staying: u16 = 0;
         for duty in masks::each(u64::from(self.masks[place])) {
-            if self.duty_stays(automaton, tally, place, duty) {
+            if self.duty_stays(tally, place, duty) {
                 staying |= 1 << duty;
             }
         }
@@ -239,33 +237,25 @@ impl<'a> Swept<'a> {
     }
 
     // The counts that some sequence meets, or that lie in the interval of some end state.
-    fn met_counts<C: CounterAutomaton>(&self, automaton: &C) -> u64
-        requires { Ready (C.CounterAutomaton.meaning automaton.now) self.now }
-        ensures { (k : ℕ) → k < 64 → Decides (has result k) (CountStays (C.CounterAutomaton.meaning automaton.now) self.now.masks.now self.now.sense k) }
+    fn met_counts(&self) -> u64
+        ensures { (k : ℕ) → k < 64 → Decides (has result k) (CountStays (C.CounterAutomaton.meaning self.now.automaton.now) self.now.masks.now self.now.sense k) }
     {
         let mut met = 0;
-        for state in 0..automaton.states() {
-            met |= self.met_at_end(automaton, state);
+        for state in 0..self.automaton.states() {
+            met |= self.met_at_end(state);
         }
         met
     }
 
     // Leaves in the cells of the row what stays there, and answers how many duties went.
-    fn narrow<C: CounterAutomaton>(
-        &self,
-        automaton: &C,
-        tally: u64,
-        row: &Row,
-        cells: &mut [u16; 192],
-    ) -> u32
-        requires ready { Ready (C.CounterAutomaton.meaning automaton.now) self.now }
+    fn narrow(&self, tally: u64, row: &Row, cells: &mut [u16; 192]) -> u32
         requires masks { self.now.masks.now ≡ along row.now.cells.items cells.old }
-        ensures cells { cells.new ≡ put row.now.cells.items (kept (C.CounterAutomaton.meaning automaton.now) self.now.sense tally self.now.masks.now) cells.old }
+        ensures cells { cells.new ≡ put row.now.cells.items (kept (C.CounterAutomaton.meaning self.now.automaton.now) self.now.sense tally self.now.masks.now) cells.old }
         ensures removed { result ≡ values_lost cells.old cells.new }
     {
         let mut removed = 0;
         for (i, cell) in row.cells().iter().enumerate() {
-            let kept = self.kept_duties(automaton, tally, i);
+            let kept = self.kept_duties(tally, i);
             removed += masks::removed(u64::from(self.masks[i]), u64::from(kept));
             cells[*cell as usize] = kept;
         }
@@ -273,23 +263,16 @@ impl<'a> Swept<'a> {
     }
 
     // Leaves in the cells of the row and in the tally what stays there, and answers how many values went.
-    fn remove<C: CounterAutomaton>(
-        &self,
-        automaton: &C,
-        row: &Row,
-        cells: &mut [u16; 192],
-        tally: &mut u64,
-    ) -> u32
-        requires ready { Ready (C.CounterAutomaton.meaning automaton.now) self.now }
+    fn remove(&self, row: &Row, cells: &mut [u16; 192], tally: &mut u64) -> u32
         requires masks { self.now.masks.now ≡ along row.now.cells.items cells.old }
-        ensures cells { cells.new ≡ (leaves (C.CounterAutomaton.meaning automaton.now) self.now.sense row.now.cells.items cells.old tally.old).cells }
-        ensures tally { tally.new ≡ (leaves (C.CounterAutomaton.meaning automaton.now) self.now.sense row.now.cells.items cells.old tally.old).tally }
+        ensures cells { cells.new ≡ (leaves (C.CounterAutomaton.meaning self.now.automaton.now) self.now.sense row.now.cells.items cells.old tally.old).cells }
+        ensures tally { tally.new ≡ (leaves (C.CounterAutomaton.meaning self.now.automaton.now) self.now.sense row.now.cells.items cells.old tally.old).tally }
         ensures removed { result ≡ values_lost cells.old cells.new + length (lost 64 tally.old tally.new) }
     {
         let before = *tally;
-        let after = before & self.met_counts(automaton);
+        let after = before & self.met_counts();
         *tally = after;
-        self.narrow(automaton, before, row, cells) + masks::removed(before, after)
+        self.narrow(before, row, cells) + masks::removed(before, after)
     }
 }
 
@@ -303,16 +286,16 @@ pub fn run<C: CounterAutomaton>(
 ) -> Result<u32, PlanFault>
     ensures { MatchResult result (RuleRan (C.CounterAutomaton.meaning automaton.now) rule.now workspace.old cells.old cells.new tally.old tally.new) (NotRun workspace.old workspace.new cells.old cells.new tally.old tally.new) }
 {
-    if workspace.len() < 4160 {
+    if workspace.len() < WORKSPACE {
         return Err(PlanFault::Workspace);
     }
     let row = rule.row();
     let sense = rule.sense();
     let gathered = gather(row, cells);
-    let masks = &gathered[0..row.cells().len()];
-    let (least, greatest) = workspace.split_at_mut(2080);
-    let (least_forth, least_back) = least.split_at_mut(1040);
-    let (greatest_forth, greatest_back) = greatest.split_at_mut(1040);
+    let masks = gathered.as_slice();
+    let (least, greatest) = workspace.split_at_mut(2 * CODES);
+    let (least_forth, least_back) = least.split_at_mut(CODES);
+    let (greatest_forth, greatest_back) = greatest.split_at_mut(CODES);
     if sense != Sense::AtLeast {
         sweep::<Least, C>(automaton, masks, least_forth, least_back)?;
     }
@@ -321,6 +304,6 @@ pub fn run<C: CounterAutomaton>(
     }
     let least = Ways::new(least_forth, least_back);
     let greatest = Ways::new(greatest_forth, greatest_back);
-    let swept = Swept::new(sense, masks, least, greatest);
-    Ok(swept.remove(automaton, row, cells, tally))
+    let swept = Swept::new(automaton, sense, masks, least, greatest);
+    Ok(swept.remove(row, cells, tally))
 }

@@ -8,8 +8,8 @@ use Rattle.runs.proofs.Swept.duty_stays.Goals.{else-is_reached-via-then-is_reach
 
 pub returns-then-overlap : goal.returns-then-overlap
 returns-then-overlap g c =
-    let a = g.C.CounterAutomaton.meaning c.args.automaton.now in
-    let lawful = g.C.CounterAutomaton.lawful c.args.automaton.now in
+    let a = g.C.CounterAutomaton.meaning c.args.self.now.automaton.now in
+    let lawful = g.C.CounterAutomaton.lawful c.args.self.now.automaton.now in
     let s = c.args.self.now in
     let w = c.overlap.ensures.0 c.if-overlap.true in
     let here = (c.met_through.ensures w.0 w.1).0 (eq-eqb (bit c.met_through.result w.0) 1 w.2) in (
@@ -20,7 +20,7 @@ returns-then-overlap g c =
 
 pub loop-state-preserved : goal.loop-state-preserved
 loop-state-preserved g c q k h l i p =
-    let a = g.C.CounterAutomaton.meaning c.args.automaton.now in
+    let a = g.C.CounterAutomaton.meaning c.args.self.now.automaton.now in
     let s = c.args.self.now in
     ⊎_elim
     (λ (before : q < c.loop-state.state). c.loop-state.invariant q k before l i p)
@@ -32,14 +32,14 @@ loop-state-preserved g c q k h l i p =
       | else-is_reached-via-then-is_reached+else-overlap w ↦
           both_ways w.overlap.result w.if-overlap.false (w.overlap.ensures.1 (k, l, eqb-true (bit w.met_through.result k) 1 ((w.met_through.ensures k l).1 here), i))
       | else-is_reached-via-else-is_reached w ↦
-          c.is_reached.ensures w.if-is_reached.false a c.requires.ready (omega (arith, c.loop-state-test.true, c.states-state-end.ensures)) c.args.duty k l here
+          c.is_reached.ensures w.if-is_reached.false c.args.duty k l here
     ])
     (cases_lt q c.loop-state.state)
 
 pub returns : goal.returns
 returns g c =
-    let a = g.C.CounterAutomaton.meaning c.args.automaton.now in
-    let lawful = g.C.CounterAutomaton.lawful c.args.automaton.now in
+    let a = g.C.CounterAutomaton.meaning c.args.self.now.automaton.now in
+    let lawful = g.C.CounterAutomaton.lawful c.args.self.now.automaton.now in
     let s = c.args.self.now in (
       λ e. absurd (false≢true e),
       λ d.

@@ -9,7 +9,7 @@ use Rattle.runs.proofs.Swept.kept_duties.Goals as goal
 
 pub loop-duty-init : goal.loop-duty-init
 loop-duty-init g c =
-    let a = g.C.CounterAutomaton.meaning c.args.automaton.now in
+    let a = g.C.CounterAutomaton.meaning c.args.self.now.automaton.now in
     let s = c.args.self.now in
     let mask = get_or s.masks.now c.args.place 0 in
     let whole : c.into_iter-duty-iterator.result.rest ≡ mask = cc in
@@ -18,7 +18,7 @@ loop-duty-init g c =
 pub duty_stays-requires : goal.duty_stays-requires
 duty_stays-requires g c =
     let p = sifted_next c.next.new.self.rest c.in-Some.duty c.in-Some.ensures.steps c.loop-duty.invariant.2 in
-    record { ready = c.requires.ready; place = c.requires.place; duty = p.0; held = p.1 }
+    record { place = c.requires.place; duty = p.0; held = p.1 }
 
 pub overflow_cast-staying : goal.overflow_cast-staying
 overflow_cast-staying g c = omega (arith, (sifted_next c.next.new.self.rest c.in-Some.duty c.in-Some.ensures.steps c.loop-duty.invariant.2).0)
@@ -28,7 +28,7 @@ overflow_shl-staying g c = (sifted_next c.next.new.self.rest c.in-Some.duty c.in
 
 pub loop-duty-preserved-then-duty_stays : goal.loop-duty-preserved-then-duty_stays
 loop-duty-preserved-then-duty_stays g c =
-    let a = g.C.CounterAutomaton.meaning c.args.automaton.now in
+    let a = g.C.CounterAutomaton.meaning c.args.self.now.automaton.now in
     let s = c.args.self.now in
     let d : ℕ = c.in-Some.duty in
     let same = same_tests (duty_stays a s.masks.now s.sense c.args.tally c.args.place d) c.duty_stays.result (duty_decided a s.masks.now s.sense c.args.tally c.args.place d) c.duty_stays.ensures in
@@ -39,7 +39,7 @@ loop-duty-preserved-then-duty_stays g c =
 
 pub loop-duty-preserved : goal.loop-duty-preserved
 loop-duty-preserved g c =
-    let a = g.C.CounterAutomaton.meaning c.args.automaton.now in
+    let a = g.C.CounterAutomaton.meaning c.args.self.now.automaton.now in
     let s = c.args.self.now in
     let d : ℕ = c.in-Some.duty in
     let same = same_tests (duty_stays a s.masks.now s.sense c.args.tally c.args.place d) c.duty_stays.result (duty_decided a s.masks.now s.sense c.args.tally c.args.place d) c.duty_stays.ensures in

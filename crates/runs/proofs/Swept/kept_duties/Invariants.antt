@@ -8,4 +8,4 @@ abbrev pub invariant-loop-duty : goal.invariant-loop-duty
 invariant-loop-duty g l =
     (goal.iterator-loop-duty g).can_next l.duty-iterator
     × (goal.iterator-loop-duty g).is_finite l.duty-iterator
-    × Sifted (get_or l.self.masks.now l.place 0) (duty_stays (g.C.CounterAutomaton.meaning l.automaton) l.self.masks.now l.self.sense l.tally l.place) l.duty-iterator.rest l.staying
+    × Sifted (get_or l.self.masks.now l.place 0) (duty_stays (g.C.CounterAutomaton.meaning l.self.automaton.now) l.self.masks.now l.self.sense l.tally l.place) l.duty-iterator.rest l.staying

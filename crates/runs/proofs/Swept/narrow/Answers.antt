@@ -14,7 +14,6 @@ kept_duties-kept-requires g c =
     let row : List ℕ = vec_items c.args.row.now.cells in
     let cells : List ℕ = c.args.cells.now in
     record {
-      ready = c.requires.ready;
       place = omega (arith, ap length c.requires.masks, length-map row (λ (j : ℕ). get_or cells j 0), ap length c.cells-cell-items.ensures, c.loop-i-test.true);
     }
 
@@ -38,7 +37,7 @@ overflow_add-removed g c =
 
 pub loop-i-preserved : goal.loop-i-preserved
 loop-i-preserved g c =
-    let a = g.C.CounterAutomaton.meaning c.args.automaton.now in
+    let a = g.C.CounterAutomaton.meaning c.args.self.now.automaton.now in
     let s = c.args.self.now in
     let masks : List ℕ = s.masks.now in
     let row : List ℕ = vec_items c.args.row.now.cells in
@@ -55,7 +54,7 @@ loop-i-preserved g c =
 
 pub returns : goal.returns
 returns g c =
-    let a = g.C.CounterAutomaton.meaning c.args.automaton.now in
+    let a = g.C.CounterAutomaton.meaning c.args.self.now.automaton.now in
     let s = c.args.self.now in
     let row : List ℕ = vec_items c.args.row.now.cells in
     let all : length row ≤ c.loop-i.i = omega (arith, ap length c.cells-cell-items.ensures, c.loop-i-test.false) in

@@ -14,8 +14,8 @@ overflow_add-result g c =
 
 pub returns : goal.returns
 returns g c =
-    let a = g.C.CounterAutomaton.meaning c.args.automaton.now in
-    let lawful = g.C.CounterAutomaton.lawful c.args.automaton.now in
+    let a = g.C.CounterAutomaton.meaning c.args.self.now.automaton.now in
+    let lawful = g.C.CounterAutomaton.lawful c.args.self.now.automaton.now in
     let s = c.args.self.now in
     let row : List ℕ = vec_items c.args.row.now.cells in
     let cells : List ℕ = c.args.cells.now in
