@@ -1,7 +1,9 @@
 -- What a family answers by whether it has the rule, and whether the workspace suffices.
-use Rattle.std.proofs.Common.{◌≡◌, ℕ, ◌+◌, ◌<◌, ◌≤◌, Bool, true, false, cond, ltb, leb, List, map, length, get_or, None, vec_items, sym, refl, ap, ◌∙◌, subst, ap₂, arith}
+use Rattle.std.proofs.Common.{◌≡◌, ℕ, ◌+◌, ◌<◌, ◌≤◌, Bool, true, false, cond, ltb, leb, List, map, length, get_or, None, Ok, Err, Result, MatchResult, vec_items, sym, refl, ap, ◌∙◌, subst, ap₂, arith}
 use Rattle.std.proofs.lemmas.List.{get_or-map, get_or_past, length-map}
 use Rattle.std.proofs.lemmas.Bool.{lt-ltb, le-ltb, le-leb, lt-leb}
+use Rattle.std.specs.Result.{result_unwrap_or}
+use Rattle.refusals.specs.declared.PlanFault.{PlanFault}
 use Rattle.automata.specs.Automaton.{Automaton}
 use Rattle.masks.specs.Members.{lost}
 use Rattle.masks.proofs.Counting.{lost_nothing}
@@ -11,7 +13,7 @@ use Rattle.sweeps.specs.Figures.{figures_of}
 use Rattle.families.specs.Meaning as families
 use Rattle.families.specs.Meaning.{Meaning, Left, workspace_needed, when_able, ran, figured, start_of}
 use Rattle.rules.specs.declared.Rule.{Rule}
-use Rattle.runs.specs.Run.{along, leaves}
+use Rattle.runs.specs.Run.{along, leaves, RuleRan, NotRun}
 use Rattle.counting.specs.Family.{family_of, rule_of, one_sided, one_sided_at}
 use Rattle.counting.specs.FamilyLaws.{rule_at}
 
@@ -63,3 +65,14 @@ module _ (a : Automaton) (rules found : List Rule) (at : found ≡ rules) (r : �
 
   pub found_figured : (w : ℕ) (c : List ℕ) → workspace_needed ≤ w → figured (family_of a rules) w r c ≡ figures_of a (along (vec_items x.row.cells) c)
   found_figured w c k = able (family_of a rules) w r (((family_of a rules).rule r).figures c) None found_inside k ∙ ap (λ (z : families.Rule). z.figures c) is_rule
+
+  -- what a run tells, and that it tells 0 where it is refused
+  pub run_told : (w v c d : List ℕ) (t u n : ℕ) (res : Result ℕ PlanFault) → n ≡ result_unwrap_or res 0 → MatchResult res (RuleRan a x w c d t u) (NotRun w v c d t u)
+      → (d ≡ (ran (family_of a rules) (length w) r c t).cells) × (u ≡ (ran (family_of a rules) (length w) r c t).tally) × (n ≡ values_lost c d + length (lost 64 t u)) × (length w < workspace_needed → v ≡ w)
+  run_told w v c d t u n (Ok y) is did =
+      let same = sym (found_ran (length w) c t did.0) in
+      (did.1 ∙ ap (λ (l : Left). l.cells) same, did.2 ∙ ap (λ (l : Left). l.tally) same, is ∙ did.3, λ k. absurd (omega (arith, did.0, k)))
+  run_told w v c d t u n (Err e) is did =
+      let left : Left = record { cells = c; tally = t } in
+      let same = sym (short (family_of a rules) (length w) r (((family_of a rules).rule r).leaves c t) left did.1) in
+      (did.2 ∙ ap (λ (l : Left). l.cells) same, did.3 ∙ ap (λ (l : Left). l.tally) same, is ∙ sym (none_lost c t d u did.2 did.3), λ _. did.4)

@@ -98,10 +98,7 @@ fn row_figures<C: CounterAutomaton>(
         return None;
     }
     let masks = runs::gather(row, cells);
-    match sweeps::row_figures(automaton, &masks[0..row.cells().len()], workspace) {
-        Ok(figures) => figures,
-        Err(_) => None,
-    }
+    sweeps::row_figures(automaton, masks.as_slice(), workspace).unwrap_or(None)
 }
 
 impl<C: CounterAutomaton> Family for Counting<C> {
@@ -114,10 +111,7 @@ impl<C: CounterAutomaton> Family for Counting<C> {
     }
 
     fn start_tally(&self, rule: usize) -> u64 {
-        match self.rules.get(rule) {
-            Some(rule) => rule.tally(),
-            None => 0,
-        }
+        self.rules.get(rule).map_or(0, Rule::tally)
     }
 
     fn run(
@@ -130,17 +124,12 @@ impl<C: CounterAutomaton> Family for Counting<C> {
         let Some(rule) = self.rules.get(rule) else {
             return 0;
         };
-        match runs::run(&self.automaton, rule, cells, tally, workspace) {
-            Ok(removed) => removed,
-            Err(_) => 0,
-        }
+        runs::run(&self.automaton, rule, cells, tally, workspace).unwrap_or(0)
     }
 
     fn figures(&self, rule: usize, cells: &[u16; 192], workspace: &mut [u64]) -> Option<Figures> {
-        match self.rules.get(rule) {
-            Some(rule) => row_figures(&self.automaton, rule.row(), cells, workspace),
-            None => None,
-        }
+        let rule = self.rules.get(rule)?;
+        row_figures(&self.automaton, rule.row(), cells, workspace)
     }
 }
 

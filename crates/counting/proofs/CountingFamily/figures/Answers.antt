@@ -8,14 +8,14 @@ use Rattle.counting.specs.Family.{family_of}
 use Rattle.counting.proofs.Found.{short, found_inside, found_figured}
 use Rattle.counting.proofs.CountingFamily.figures.Goals as goal
 
-pub returns-in-Some : goal.returns-in-Some
-returns-in-Some g c =
+pub returns : goal.returns
+returns g c =
     let a = g.C.CounterAutomaton.meaning c.args.self.now.automaton in
     let rules = vec_items c.args.self.now.rules in
     let w = length c.args.workspace.now in
     let cells = c.args.cells.now in
-    let h = c.in-Some.ensures.lookup in
-    let x = c.in-Some.rule.now in
+    let h = c.in_ok-rule.ensures.lookup in
+    let x = c.in_ok-rule.rule.now in
     let told = c.row_figures.ensures in
     record {
       figures = ⊎_elim

@@ -1,8 +1,8 @@
-use Rattle.std.proofs.Common.{◌≡◌, ◌<◌, ◌≤◌, length, vec_items, sym, refl, ap, ◌∙◌, ⊎_elim, arith}
+use Rattle.std.proofs.Common.{◌≡◌, ◌≤◌, length, vec_items, sym, refl, ap, ⊎_elim, arith}
 use Rattle.std.proofs.lemmas.Bool.{ltb-false}
-use Rattle.families.specs.Meaning.{Left, workspace_needed}
+use Rattle.families.specs.Meaning.{Left}
 use Rattle.counting.specs.Family.{family_of}
-use Rattle.counting.proofs.Found.{outside, short, found_inside, found_ran, none_lost}
+use Rattle.counting.proofs.Found.{outside, found_inside, run_told, none_lost}
 use Rattle.counting.proofs.CountingFamily.run.Goals as goal
 
 pub returns-in_default : goal.returns-in_default
@@ -24,38 +24,18 @@ returns-in_default g c =
       left_alone = λ _. refl;
     }
 
-pub returns-in-Ok : goal.returns-in-Ok
-returns-in-Ok g c =
+pub returns : goal.returns
+returns g c =
     let a = g.C.CounterAutomaton.meaning c.args.self.now.automaton in
     let rules = vec_items c.args.self.now.rules in
-    let w = length c.args.workspace.now in
-    let cells = c.args.cells.now in
-    let tally = c.args.tally.now in
     let h = c.in-Some.ensures.lookup in
     let x = c.in-Some.rule.now in
-    let did = c.in-Ok.ensures in
-    let same = sym (found_ran a rules c.deref.result.now c.deref.ensures.value c.args.rule x h.3.0 h.1 w cells tally did.0) in
     let inside = found_inside a rules c.deref.result.now c.deref.ensures.value c.args.rule x h.3.0 h.1 in
+    let told = run_told a rules c.deref.result.now c.deref.ensures.value c.args.rule x h.3.0 h.1 c.args.workspace.now c.run.new.workspace c.args.cells.now c.run.new.cells c.args.tally.now c.run.new.tally
+    c.unwrap_or.result c.run.result c.unwrap_or.ensures c.run.ensures in
     record {
-      cells = did.1 ∙ ap (λ (l : Left). l.cells) same;
-      tally = did.2 ∙ ap (λ (l : Left). l.tally) same;
-      removed = did.3;
-      left_alone = ⊎_elim (λ (out : length rules ≤ c.args.rule). absurd (omega arith)) (λ (k : w < workspace_needed). absurd (omega (arith, did.0)));
-    }
-
-pub returns-in-Err : goal.returns-in-Err
-returns-in-Err g c =
-    let a = g.C.CounterAutomaton.meaning c.args.self.now.automaton in
-    let rules = vec_items c.args.self.now.rules in
-    let w = length c.args.workspace.now in
-    let cells = c.args.cells.now in
-    let tally = c.args.tally.now in
-    let left : Left = record { cells = cells; tally = tally } in
-    let did = c.in-Err.ensures in
-    let same = sym (short (family_of a rules) w c.args.rule (((family_of a rules).rule c.args.rule).leaves cells tally) left did.1) in
-    record {
-      cells = did.2 ∙ ap (λ (l : Left). l.cells) same;
-      tally = did.3 ∙ ap (λ (l : Left). l.tally) same;
-      removed = sym (none_lost cells tally c.run.new.cells c.run.new.tally did.2 did.3);
-      left_alone = λ _. did.4;
+      cells = told.0;
+      tally = told.1;
+      removed = told.2;
+      left_alone = ⊎_elim (λ (out : length rules ≤ c.args.rule). absurd (omega arith)) told.3;
     }
