@@ -1,24 +1,26 @@
 // What a program prints of a file, as text.
 //
 // Each type here is one line, or a part of one. Proved: the text of each, character by character.
+// Most wrap a type of a crate below, which does not know how a program prints it: a Display can stand
+// only beside its trait or its type.
 #![tactic(auto)]
 
-ghost use Rattle.std.specs.Prelude.{◌≡◌, ◌<◌, false, List, [], ◌∷◌, ◌++◌, Some, codes, decimal};
-ghost use Rattle.std.specs.Fmt.{digit_glyph};
+ghost use Rattle.std.specs.Prelude.{◌++◌, Some, codes, decimal};
 ghost use Rattle.refusals.specs.Reports.{file_report};
-ghost use Rattle.printing.specs.Text.{work_text, failure_text, layer_text, refusal_text, try_text, start_text, level_text, told_text, fault_text, memory_text, hex_text, long_hex_text, cell_text, rule_text};
+ghost use Rattle.printing.specs.Text.{work_text, failure_text, layer_text, refusal_text, try_text, start_text, level_text, told_text, fault_text, memory_text, cell_text, rule_text};
 
 use interpreter::file::{CellLine, RuleLine, Told};
 use planning::plan::{Start, Try};
 use refusals::{FileFault, Layer, PlanFault, Report};
 use settling::{Failure, Spot, Work};
 use std::fmt;
+use std::fmt::Display;
 
 // Work that ended well.
 #[derive(Clone, Copy)]
 struct WorkText(Work);
 
-impl fmt::Display for WorkText {
+impl Display for WorkText {
     ghost output = { λ x. Some (work_text x.0) };
 
     fn fmt<W: fmt::Write>(&self, f: &mut fmt::Formatter<W>) -> fmt::Result {
@@ -32,7 +34,7 @@ impl fmt::Display for WorkText {
 #[derive(Clone, Copy)]
 struct FailureText(Failure);
 
-impl fmt::Display for FailureText {
+impl Display for FailureText {
     ghost output = { λ x. Some (failure_text x.0) };
 
     fn fmt<W: fmt::Write>(&self, f: &mut fmt::Formatter<W>) -> fmt::Result {
@@ -48,7 +50,7 @@ impl fmt::Display for FailureText {
 #[derive(Clone, Copy)]
 struct LayerText(Layer);
 
-impl fmt::Display for LayerText {
+impl Display for LayerText {
     ghost output = { λ x. Some (layer_text x.0) };
 
     fn fmt<W: fmt::Write>(&self, f: &mut fmt::Formatter<W>) -> fmt::Result {
@@ -65,7 +67,7 @@ impl fmt::Display for LayerText {
 #[derive(Clone, Copy)]
 struct RefusalText(Report);
 
-impl fmt::Display for RefusalText {
+impl Display for RefusalText {
     ghost output = { λ x. Some (refusal_text x.0) };
 
     fn fmt<W: fmt::Write>(&self, f: &mut fmt::Formatter<W>) -> fmt::Result {
@@ -85,7 +87,7 @@ struct TryText {
     answer: Result<Try, PlanFault>,
 }
 
-impl fmt::Display for TryText {
+impl Display for TryText {
     ghost output = { λ x. Some (try_text x.call.now x.mask.now x.index x.answer) };
 
     fn fmt<W: fmt::Write>(&self, f: &mut fmt::Formatter<W>) -> fmt::Result {
@@ -102,10 +104,7 @@ impl fmt::Display for TryText {
                 write!(f, "{call} fails {failure}")
             }
             Ok(Try::Own) => write!(f, "{call} fails own {mask} {index} runs 0"),
-            Err(fault) => {
-                let refusal = RefusalText(fault.report());
-                write!(f, "{refusal}")
-            }
+            Err(fault) => RefusalText(fault.report()).fmt(f),
         }
     }
 }
@@ -117,7 +116,7 @@ pub struct Entry {
     pub told: Told,
 }
 
-impl fmt::Display for Entry {
+impl Display for Entry {
     ghost output = { λ x. Some (decimal x.line ++ (codes " " ++ told_text x.told)) };
 
     fn fmt<W: fmt::Write>(&self, f: &mut fmt::Formatter<W>) -> fmt::Result {
@@ -130,7 +129,7 @@ impl fmt::Display for Entry {
 #[derive(Clone, Copy)]
 struct StartText(Start);
 
-impl fmt::Display for StartText {
+impl Display for StartText {
     ghost output = { λ x. Some (start_text x.0) };
 
     fn fmt<W: fmt::Write>(&self, f: &mut fmt::Formatter<W>) -> fmt::Result {
@@ -143,29 +142,23 @@ impl fmt::Display for StartText {
                 let failure = FailureText(failure);
                 write!(f, "start void {failure}")
             }
-            Start::Short => fmt::Display::fmt(&"start void runs 0", f),
+            Start::Short => "start void runs 0".fmt(f),
         }
     }
 }
 
 // A mark or a step back: the call, and how many levels are open.
 #[derive(Clone, Copy)]
-struct LevelText {
-    call: &'static str,
-    answer: Result<usize, PlanFault>,
-}
+struct LevelText(&'static str, Result<usize, PlanFault>);
 
-impl fmt::Display for LevelText {
-    ghost output = { λ x. Some (level_text x.call.now x.answer) };
+impl Display for LevelText {
+    ghost output = { λ x. Some (level_text x.0.now x.1) };
 
     fn fmt<W: fmt::Write>(&self, f: &mut fmt::Formatter<W>) -> fmt::Result {
-        let call = self.call;
-        match self.answer {
+        let call = self.0;
+        match self.1 {
             Ok(levels) => write!(f, "{call} ok level {levels}"),
-            Err(fault) => {
-                let refusal = RefusalText(fault.report());
-                write!(f, "{refusal}")
-            }
+            Err(fault) => RefusalText(fault.report()).fmt(f),
         }
     }
 }
@@ -173,12 +166,12 @@ impl fmt::Display for LevelText {
 #[derive(Clone, Copy)]
 struct ToldText(Told);
 
-impl fmt::Display for ToldText {
+impl Display for ToldText {
     ghost output = { λ x. Some (told_text x.0) };
 
     fn fmt<W: fmt::Write>(&self, f: &mut fmt::Formatter<W>) -> fmt::Result {
         match self.0 {
-            Told::Started(start) => fmt::Display::fmt(&StartText(start), f),
+            Told::Started(start) => StartText(start).fmt(f),
             Told::Decided { cell, answer } => {
                 let text = TryText {
                     call: "decide",
@@ -186,7 +179,7 @@ impl fmt::Display for ToldText {
                     index: cell,
                     answer,
                 };
-                fmt::Display::fmt(&text, f)
+                text.fmt(f)
             }
             Told::Bounded { rule, answer } => {
                 let text = TryText {
@@ -195,23 +188,11 @@ impl fmt::Display for ToldText {
                     index: rule,
                     answer,
                 };
-                fmt::Display::fmt(&text, f)
+                text.fmt(f)
             }
-            Told::Marked(answer) => {
-                let text = LevelText {
-                    call: "mark",
-                    answer,
-                };
-                fmt::Display::fmt(&text, f)
-            }
-            Told::Backed(answer) => {
-                let text = LevelText {
-                    call: "back",
-                    answer,
-                };
-                fmt::Display::fmt(&text, f)
-            }
-            Told::Publish => fmt::Display::fmt(&"publish ok", f),
+            Told::Marked(answer) => LevelText("mark", answer).fmt(f),
+            Told::Backed(answer) => LevelText("back", answer).fmt(f),
+            Told::Publish => "publish ok".fmt(f),
         }
     }
 }
@@ -220,7 +201,7 @@ impl fmt::Display for ToldText {
 #[derive(Clone, Copy)]
 pub struct FaultText(pub FileFault);
 
-impl fmt::Display for FaultText {
+impl Display for FaultText {
     ghost output = { λ x. Some (fault_text x.0.line (file_report x.0)) };
 
     fn fmt<W: fmt::Write>(&self, f: &mut fmt::Formatter<W>) -> fmt::Result {
@@ -236,7 +217,7 @@ pub struct MemoryText {
     pub line: u64,
 }
 
-impl fmt::Display for MemoryText {
+impl Display for MemoryText {
     ghost output = { λ x. Some (memory_text x.line) };
 
     fn fmt<W: fmt::Write>(&self, f: &mut fmt::Formatter<W>) -> fmt::Result {
@@ -245,74 +226,17 @@ impl fmt::Display for MemoryText {
     }
 }
 
-// A hexadecimal digit.
-fn digit(n: u16) -> &'static str
-    requires { n < 16 }
-    ensures { result.now ≡ digit_glyph false n ∷ [] }
-{
-    match n {
-        0 => "0",
-        1 => "1",
-        2 => "2",
-        3 => "3",
-        4 => "4",
-        5 => "5",
-        6 => "6",
-        7 => "7",
-        8 => "8",
-        9 => "9",
-        10 => "a",
-        11 => "b",
-        12 => "c",
-        13 => "d",
-        14 => "e",
-        _ => "f",
-    }
-}
-
-// Four hexadecimal digits.
-#[derive(Clone, Copy)]
-struct Hex(u16);
-
-impl fmt::Display for Hex {
-    ghost output = { λ x. Some (hex_text x.0) };
-
-    fn fmt<W: fmt::Write>(&self, f: &mut fmt::Formatter<W>) -> fmt::Result {
-        let a = digit(self.0 / 4096);
-        let b = digit(self.0 / 256 % 16);
-        let c = digit(self.0 / 16 % 16);
-        let d = digit(self.0 % 16);
-        write!(f, "{a}{b}{c}{d}")
-    }
-}
-
-// Sixteen hexadecimal digits.
-#[derive(Clone, Copy)]
-struct LongHex(u64);
-
-impl fmt::Display for LongHex {
-    ghost output = { λ x. Some (long_hex_text x.0) };
-
-    fn fmt<W: fmt::Write>(&self, f: &mut fmt::Formatter<W>) -> fmt::Result {
-        let a = Hex((self.0 / 0x1000000000000) as u16);
-        let b = Hex((self.0 / 0x100000000 % 0x10000) as u16);
-        let c = Hex((self.0 / 0x10000 % 0x10000) as u16);
-        let d = Hex((self.0 % 0x10000) as u16);
-        write!(f, "{a}{b}{c}{d}")
-    }
-}
-
 // A cell of a roster and its mask.
 #[derive(Clone, Copy)]
 pub struct CellText(pub CellLine);
 
-impl fmt::Display for CellText {
+impl Display for CellText {
     ghost output = { λ x. Some (cell_text x.0.cell x.0.mask) };
 
     fn fmt<W: fmt::Write>(&self, f: &mut fmt::Formatter<W>) -> fmt::Result {
         let cell = self.0.cell;
-        let mask = Hex(self.0.mask);
-        write!(f, "cell {cell} {mask}")
+        let mask = self.0.mask;
+        write!(f, "cell {cell} {mask:04x}")
     }
 }
 
@@ -320,19 +244,19 @@ impl fmt::Display for CellText {
 #[derive(Clone, Copy)]
 pub struct RuleText(pub RuleLine);
 
-impl fmt::Display for RuleText {
+impl Display for RuleText {
     ghost output = { λ x. Some (rule_text x.0.rule x.0.tally x.0.figures) };
 
     fn fmt<W: fmt::Write>(&self, f: &mut fmt::Formatter<W>) -> fmt::Result {
         let rule = self.0.rule;
-        let tally = LongHex(self.0.tally);
+        let tally = self.0.tally;
         match self.0.figures {
             Some(figures) => {
                 let least = figures.least;
                 let greatest = figures.greatest;
-                write!(f, "rule {rule} {tally} {least} {greatest}")
+                write!(f, "rule {rule} {tally:016x} {least} {greatest}")
             }
-            None => write!(f, "rule {rule} {tally} none none"),
+            None => write!(f, "rule {rule} {tally:016x} none none"),
         }
     }
 }
