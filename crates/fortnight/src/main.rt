@@ -46,52 +46,39 @@ fn open_duty(letter: u8) -> u16 {
 }
 
 // The mask of the duties that the letters stand for.
+// (The program one_run has the same two functions: a crate of their own would be no plainer.)
 fn open_duties(letters: &str) -> u16 {
-    let mut mask = 0;
-    for letter in letters.bytes() {
-        mask |= open_duty(letter);
-    }
-    mask
+    letters
+        .bytes()
+        .fold(0, |mask, letter| mask | open_duty(letter))
 }
 
 // The mask of a line: the letters after the day's name.
 fn day_mask(line: &str) -> Option<u16> {
-    let mut parts = line.split_whitespace();
-    parts.next()?;
-    let letters = parts.next()?;
-    Some(open_duties(letters))
+    line.split_whitespace().nth(1).map(open_duties)
 }
 
-// What went wrong with an automaton, by the number of its refusal.
+// What went wrong with an automaton.
 fn refused(fault: PostFault) -> anyhow::Error {
-    if fault.report().number == 4 {
-        anyhow!("a pattern has a wrong length")
-    } else {
-        anyhow!("a pattern has a wrong duty or state")
+    match fault {
+        PostFault::Length { .. } => anyhow!("a pattern has a wrong length"),
+        _ => anyhow!("a pattern has a wrong duty or state"),
     }
 }
 
 fn word(duties: &[u8]) -> anyhow::Result<Word> {
-    match Word::new(duties) {
-        Ok(word) => Ok(word),
-        Err(fault) => Err(refused(fault)),
-    }
+    Word::new(duties).map_err(refused)
 }
 
 fn table<'a>(states: u8, steps: &'a [u8]) -> anyhow::Result<Table<'a>> {
-    match Table::new(states, steps) {
-        Ok(table) => Ok(table),
-        Err(fault) => Err(refused(fault)),
-    }
+    Table::new(states, steps).map_err(refused)
 }
 
 // Counts each working day that follows five others without a free day: state q has seen q of them.
 fn long_stretch() -> [u8; 96] {
     let mut steps = [0; 96];
-    for q in 0..6u8 {
-        for d in 1..16u8 {
-            steps[16 * q as usize + d as usize] = if q < 5 { 16 * (q + 1) } else { 16 * 5 + 1 };
-        }
+    for (q, row) in (0..6u8).zip(steps.chunks_exact_mut(16)) {
+        row[1..].fill(if q < 5 { 16 * (q + 1) } else { 16 * 5 + 1 });
     }
     steps
 }

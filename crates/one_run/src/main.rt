@@ -8,7 +8,7 @@
 // the days removes from the days as they were read, duty by duty and count by count.
 #![tactic(auto)]
 
-use anyhow::anyhow;
+use anyhow::{anyhow, bail};
 use automata::{Among, CounterAutomaton};
 use refusals::PostError;
 use rules::{Row, Rule, Sense};
@@ -22,20 +22,24 @@ struct Days {
     cells: [u16; 192],
 }
 
-// The mask of the duties that letters stand for.
-fn open_duties(letters: &str) -> u16 {
-    let mut mask = 0;
-    for letter in letters.bytes() {
-        mask |= match letter {
-            b'F' => 1,
-            b'E' => 2,
-            b'L' => 4,
-            b'N' => 8,
-            b'S' => 16,
-            _ => 0,
-        };
+// The mask of the duty that a letter stands for, empty for any other letter.
+fn open_duty(letter: u8) -> u16 {
+    match letter {
+        b'F' => 1,
+        b'E' => 2,
+        b'L' => 4,
+        b'N' => 8,
+        b'S' => 16,
+        _ => 0,
     }
-    mask
+}
+
+// The mask of the duties that the letters stand for.
+// (The program fortnight has the same two functions: a crate of their own would be no plainer.)
+fn open_duties(letters: &str) -> u16 {
+    letters
+        .bytes()
+        .fold(0, |mask, letter| mask | open_duty(letter))
 }
 
 fn duty_name(duty: usize) -> &'static str {
@@ -54,7 +58,7 @@ fn sense_named(name: &str) -> anyhow::Result<Sense> {
         "at-most" => Ok(Sense::AtMost),
         "at-least" => Ok(Sense::AtLeast),
         "exactly" => Ok(Sense::Exactly),
-        _ => Err(anyhow!("a rule has an unknown sense")),
+        _ => bail!("a rule has an unknown sense"),
     }
 }
 
@@ -64,36 +68,25 @@ fn read_day(heap: Global, days: &mut Days, line: &str) -> anyhow::Result<()> {
     let Some(name) = parts.next() else {
         return Ok(());
     };
-    let at = days.names.len();
-    if at >= 192 {
-        return Err(anyhow!("there are more than 192 days"));
-    }
-    days.names.push(String::from_str(heap, name)?)?;
-    days.cells[at] = match parts.next() {
-        Some(letters) => open_duties(letters),
-        None => 0,
+    let Some(cell) = days.cells.get_mut(days.names.len()) else {
+        bail!("there are more than 192 days");
     };
+    days.names.push(String::from_str(heap, name)?)?;
+    *cell = parts.next().map_or(0, open_duties);
     Ok(())
 }
 
 // A row of the first cells, so many.
 fn row_of(heap: Global, number: usize) -> anyhow::Result<Row> {
-    let mut cells = Vec::new(heap);
-    for cell in 0..number.min(192) {
-        cells.push(cell as u8)?;
-    }
-    match Row::new(heap, cells.as_slice(), 192) {
-        Ok(row) => Ok(row),
-        Err(PostError::Fault(_)) => Err(anyhow!("a rule reads 1 to 64 days")),
-        Err(PostError::Memory) => Err(anyhow!("no memory")),
-    }
+    let cells: Vec<u8> = (0..192).take(number).collect(heap)?;
+    Row::new(heap, cells.as_slice(), 192).map_err(|error| match error {
+        PostError::Fault(_) => anyhow!("a rule reads 1 to 64 days"),
+        PostError::Memory => anyhow!("no memory"),
+    })
 }
 
 fn word(duties: &[u8]) -> anyhow::Result<Word> {
-    match Word::new(duties) {
-        Ok(word) => Ok(word),
-        Err(_) => Err(anyhow!("a pattern is no word")),
-    }
+    Word::new(duties).map_err(|_| anyhow!("a pattern is no word"))
 }
 
 // Runs a rule on a copy of the days, and prints what goes.
@@ -110,13 +103,10 @@ fn run_and_tell<C: CounterAutomaton>(
         Ok(removed) => println!(rt; "  {removed} values go")?,
         Err(_) => println!(rt; "  the workspace is too short")?,
     }
-    for (i, name) in days.names.iter().enumerate() {
-        if i < 192 {
-            let gone = days.cells[i] & !cells[i];
-            for duty in masks::each(u64::from(gone)) {
-                let duty = duty_name(duty);
-                println!(rt; "  {name}: {duty}")?;
-            }
+    for (name, (before, after)) in days.names.iter().zip(days.cells.iter().zip(&cells)) {
+        for duty in masks::each(u64::from(*before & !*after)) {
+            let duty = duty_name(duty);
+            println!(rt; "  {name}: {duty}")?;
         }
     }
     for count in masks::each(rule.tally() & !tally) {
@@ -144,16 +134,14 @@ fn tell_rule(
         }
     }
     let row = row_of(rt.alloc(), days.names.len())?;
-    let Ok(rule) = Rule::new(row, sense, tally) else {
-        return Err(anyhow!("a rule has no open count"));
-    };
+    let rule = Rule::new(row, sense, tally).map_err(|_| anyhow!("a rule has no open count"))?;
     match counted {
         "lates" => run_and_tell(rt, days, &Among::new(4), &rule, workspace),
         "nights" => run_and_tell(rt, days, &Among::new(8), &rule, workspace),
         "standbys" => run_and_tell(rt, days, &Among::new(16), &rule, workspace),
         "free-pairs" => run_and_tell(rt, days, &word(&[0, 0])?, &rule, workspace),
         "late-early" => run_and_tell(rt, days, &word(&[2, 1])?, &rule, workspace),
-        _ => Err(anyhow!("a rule counts something unknown")),
+        _ => bail!("a rule counts something unknown"),
     }
 }
 
