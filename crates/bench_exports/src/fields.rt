@@ -33,7 +33,7 @@ pub fn rule_of(heap: Global, fields: &RuleFields) -> Option<Rule> {
     let Ok(row) = Row::new(heap, &fields.row[0..len], 192) else {
         return None;
     };
-    let Ok(sense) = Sense::from_number(fields.sense) else {
+    let Ok(sense) = Sense::try_from(fields.sense) else {
         return None;
     };
     match Rule::new(row, sense, fields.tally) {
