@@ -9,7 +9,7 @@ use automata::Among;
 use counting::Counting;
 use families::{Family, Pair};
 use planning::plan::{Draft, Plan, Start, Try};
-use refusals::PostError;
+use refusals::{PlanFault, PostError};
 use replay::{Answer, Call, Request};
 use rules::{Row, Rule, Sense};
 use settling::{Failure, Spot, Work};
@@ -27,21 +27,12 @@ type Rules = Pair<Lates, Pairs>;
 
 // One rule over a row of cells.
 fn rule(heap: Global, cells: &[u8], sense: Sense, tally: u64) -> anyhow::Result<Rule> {
-    let row = match Row::new(heap, cells, 192) {
-        Ok(row) => row,
-        Err(_) => return Err(anyhow!("a row was refused")),
-    };
-    match Rule::new(row, sense, tally) {
-        Ok(rule) => Ok(rule),
-        Err(_) => Err(anyhow!("a rule was refused")),
-    }
+    let row = Row::new(heap, cells, 192).map_err(|_| anyhow!("a row was refused"))?;
+    Rule::new(row, sense, tally).map_err(|_| anyhow!("a rule was refused"))
 }
 
 fn posted(answer: Result<(), PostError>) -> anyhow::Result<()> {
-    match answer {
-        Ok(()) => Ok(()),
-        Err(_) => Err(anyhow!("a rule was not posted")),
-    }
+    answer.map_err(|_| anyhow!("a rule was not posted"))
 }
 
 // At most two lates in each crew's week; exactly one late on the first two days of both.
@@ -56,9 +47,7 @@ fn lates(heap: Global) -> anyhow::Result<Lates> {
 
 // At least one pair of free days in each crew's week.
 fn free_pairs(heap: Global) -> anyhow::Result<Pairs> {
-    let Ok(word) = Word::new(&[0, 0]) else {
-        return Err(anyhow!("the word was refused"));
-    };
+    let word = Word::new(&[0, 0]).map_err(|_| anyhow!("the word was refused"))?;
     let mut family = Counting::new(heap, word);
     posted(family.post(rule(heap, &[0, 1, 2, 3, 4, 5, 6], Sense::AtLeast, 14)?))?;
     posted(family.post(rule(heap, &[7, 8, 9, 10, 11, 12, 13], Sense::AtLeast, 14)?))?;
@@ -68,19 +57,17 @@ fn free_pairs(heap: Global) -> anyhow::Result<Pairs> {
 fn rules_of(heap: Global) -> anyhow::Result<Rules> {
     let first = lates(heap)?;
     let second = free_pairs(heap)?;
-    if families::check_pair(&first, &second).is_err() {
-        return Err(anyhow!("the families have too many rules"));
-    }
+    families::check_pair(&first, &second).map_err(|_| anyhow!("the families have too many rules"))?;
     Ok(Pair::new(first, second))
 }
 
 // Every duty open on every day of both crews.
 fn draft_of() -> anyhow::Result<Draft> {
     let mut draft = Draft::new();
-    match draft.set_range(0, 14, DUTIES) {
-        Ok(()) => Ok(draft),
-        Err(_) => Err(anyhow!("the range was refused")),
-    }
+    draft
+        .set_range(0, 14, DUTIES)
+        .map_err(|_| anyhow!("the range was refused"))?;
+    Ok(draft)
 }
 
 fn tell_failure(rt: &HostRuntime, failure: Failure) -> anyhow::Result<()> {
@@ -110,22 +97,22 @@ fn tell_start(rt: &HostRuntime, start: Start) -> anyhow::Result<()> {
     }
 }
 
-fn tell_answer(rt: &HostRuntime, answer: Answer) -> anyhow::Result<()> {
+fn tell_answer(rt: &HostRuntime, answer: Result<Answer, PlanFault>) -> anyhow::Result<()> {
     match answer {
-        Answer::Tried(Try::Settled(work)) => tell_work(rt, work)?,
-        Answer::Tried(Try::Failed(failure)) => tell_failure(rt, failure)?,
-        Answer::Tried(Try::Own) => println!(rt;
+        Ok(Answer::Tried(Try::Settled(work))) => tell_work(rt, work)?,
+        Ok(Answer::Tried(Try::Failed(failure))) => tell_failure(rt, failure)?,
+        Ok(Answer::Tried(Try::Own)) => println!(rt;
             "  fails as its own: it leaves nothing of what it names"
         )?,
-        Answer::Level(levels) => println!(rt; "  {levels} levels are open")?,
-        Answer::Mask(mask) => println!(rt; "  {mask:04x}")?,
-        Answer::Told(Some(figures)) => {
+        Ok(Answer::Level(levels)) => println!(rt; "  {levels} levels are open")?,
+        Ok(Answer::Mask(mask)) => println!(rt; "  {mask:04x}")?,
+        Ok(Answer::Told(Some(figures))) => {
             let least = figures.least;
             let greatest = figures.greatest;
             println!(rt; "  {least} to {greatest}")?;
         }
-        Answer::Told(None) => println!(rt; "  no figures")?,
-        Answer::Refused(fault) => {
+        Ok(Answer::Told(None)) => println!(rt; "  no figures")?,
+        Err(fault) => {
             let number = fault.report().number;
             println!(rt; "  refused {number}")?;
         }
@@ -212,32 +199,27 @@ fn again(rt: &HostRuntime, workspace: &mut [u64]) -> anyhow::Result<Plan<Rules>>
         call(Request::Decide { cell: 0, mask: 4 }),
         call(Request::Bound { rule: 1, tally: 3 }),
     ];
-    let mut answers = [Answer::Level(0); 3];
+    let mut answers = [Ok(Answer::Level(0)); 3];
     let draft = draft_of()?;
     let rules = rules_of(rt.alloc())?;
     let (plan, start, made) = replay::replay(draft, rules, &calls, &mut answers, workspace);
     println!(rt; "the same {made} decisions in another order:")?;
     tell_start(rt, start)?;
-    for answer in answers.iter() {
-        tell_answer(rt, *answer)?;
+    for answer in answers {
+        tell_answer(rt, answer)?;
     }
     Ok(plan)
 }
 
 // How many cells and tallies of two plans differ.
-fn differences(one: &Plan<Rules>, other: &Plan<Rules>) -> u32 {
-    let mut different = 0u32;
-    for cell in 0..192usize {
-        if one.cell(cell).unwrap_or(0) != other.cell(cell).unwrap_or(1) {
-            different = different.saturating_add(1);
-        }
-    }
-    for rule in 0..6usize {
-        if one.tally(rule).unwrap_or(0) != other.tally(rule).unwrap_or(1) {
-            different = different.saturating_add(1);
-        }
-    }
-    different
+fn differences(one: &Plan<Rules>, other: &Plan<Rules>) -> usize {
+    let cells = (0..192usize)
+        .filter(|cell| one.cell(*cell).ok() != other.cell(*cell).ok())
+        .count();
+    let tallies = (0..6usize)
+        .filter(|rule| one.tally(*rule).ok() != other.tally(*rule).ok())
+        .count();
+    cells.saturating_add(tallies)
 }
 
 fn main(rt: HostRuntime) -> anyhow::Result<()> {
