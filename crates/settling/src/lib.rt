@@ -14,7 +14,7 @@ ghost use Rattle.settling.specs.Masks.{of};
 ghost use Rattle.settling.specs.Rounds.{Names, Full, run, taken};
 ghost use Rattle.settling.specs.Told.{Told, NotSettled, place_of};
 
-use families::{Family, WORKSPACE};
+use families::{Family, MOST_RULES, WORKSPACE};
 use refusals::PlanFault;
 
 // The masks of all cells and of all tallies.
@@ -22,7 +22,7 @@ use refusals::PlanFault;
 #[repr(C)]
 pub struct Snapshot {
     pub cells: [u16; 192],
-    pub tallies: [u64; 72],
+    pub tallies: [u64; MOST_RULES],
 }
 
 // How many runs were made, and how many values they took.
