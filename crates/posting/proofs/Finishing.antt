@@ -1,7 +1,6 @@
 -- What a file's draft comes to: the family of its sheet.
-use Rattle.std.proofs.Common.{◌≡◌, ℕ, zero, suc, List, [], ◌∷◌, map, get_or, vec_items, unwrap_or, refl, ap, ◌∙◌, ⊎_elim, arith}
+use Rattle.std.proofs.Common.{◌≡◌, ℕ, List, [], ◌∷◌, map, vec_items, unwrap_or, refl, ap, ◌∙◌}
 use Rattle.std.proofs.lemmas.List.{length-map}
-use Rattle.refusals.specs.declared.PostFault.{PostFault}
 use Rattle.automata.specs.Automaton.{Automaton}
 use Rattle.automata.specs.Kinds.{among, mapped, table}
 use Rattle.automata.specs.declared.Among.{Among}
@@ -9,21 +8,12 @@ use Rattle.automata.specs.declared.Map.{Map}
 use Rattle.automata.specs.declared.Table.{Table}
 use Rattle.words.specs.Search.{counting}
 use Rattle.words.specs.declared.Word.{Word}
-use Rattle.words.specs.Faults.{WordFault, wrong_length, no_duty}
 use Rattle.families.specs.Meaning.{Meaning, pair}
 use Rattle.rules.specs.declared.Rule.{Rule}
 use Rattle.counting.specs.Family.{family_of, rule_of}
 use Rattle.counting.specs.declared.Counting.{Counting}
 use Rattle.posting.specs.Sheets.{Sheet, Written, written, duties_of}
 use Rattle.posting.specs.Families.{written_rule, written_family, own_classes, blank_steps, rules_meaning, meaning_of}
-
-pub one_duty_is_a_word : (e : PostFault) → WordFault (0 ∷ []) e → ⊥
-one_duty_is_a_word e (wrong_length z) = ⊎_elim (λ h. omega (arith, h)) (λ h. omega (arith, h)) z
-one_duty_is_a_word e (no_duty a b k f) = omega (arith, f.here, only k)
-  where
-    only : (k : ℕ) → ◌≡◌ {A = ℕ} (get_or (0 ∷ []) k 0) 0
-    only zero = refl
-    only (suc k) = refl
 
 -- a rule means what is written of it
 pub rules_as_written : (a : Automaton) (rules : List Rule) → map (rule_of a) rules ≡ map (written_rule a) (map written rules)

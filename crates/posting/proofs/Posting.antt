@@ -25,8 +25,12 @@ posted_in given rule old new (Err (Fault f)) g h = (h.0, subst (SlotFault given 
 posted_in given rule old new (Err Memory) g h = (h.0, (g, h.1))
 
 -- a plan's own cells are among the 192
-pub own_limit : (size : ℕ) → size ≤ 192 → min size 192 ≡ size
-own_limit size h = omega arith
+own_limit : (count size : ℕ) → count ≡ size → size ≤ 192 → min count 192 ≡ size
+own_limit count size e h = omega arith
+
+-- a row of a plan's own cells
+pub own_row : (count size : ℕ) (cells : List ℕ) → count ≡ size → size ≤ 192 → GoodRow (min count 192) cells → GoodRow size cells
+own_row count size cells e h = subst (λ (n : ℕ). GoodRow n cells) (own_limit count size e h)
 
 -- the masks of a range that ends with the plan's cells
 pub masks_set : (first number mask : ℕ) (s t : Sheet) (r : Result (Unit {0}) PostFault) → s.size ≤ 192 → first + number ≤ s.size → t ≡ with_masks t.masks s
@@ -40,10 +44,10 @@ masks_set first number mask s t (Err e) small within only h = (only ∙ ap (λ m
     fault e (drafts.no_duty z n) = no_duty (z.0, within) n
 
 -- a row is refused
-pub row_refused : (automaton sense tally : ℕ) (cells : List ℕ) (s : Sheet) (e : PostError) → s.size ≤ 192
-    → Refusing (RowFault (min s.size 192) cells) (GoodRow (min s.size 192) cells) e → NoRule automaton sense tally cells s e
-row_refused automaton sense tally cells s (Fault f) small h = no_row f (subst (λ (n : ℕ). RowFault n cells f) (own_limit s.size small) h)
-row_refused automaton sense tally cells s Memory small h = subst (λ (n : ℕ). GoodRow n cells) (own_limit s.size small) h
+pub row_refused : (automaton sense tally : ℕ) (cells : List ℕ) (s : Sheet) (count : ℕ) (e : PostError) → count ≡ s.size → s.size ≤ 192
+    → Refusing (RowFault (min count 192) cells) (GoodRow (min count 192) cells) e → NoRule automaton sense tally cells s e
+row_refused automaton sense tally cells s count (Fault f) is small h = no_row f (subst (λ (n : ℕ). RowFault n cells f) (own_limit count s.size is small) h)
+row_refused automaton sense tally cells s count Memory is small h = own_row count s.size cells is small h
 
 -- a rule that was made of its row, sense and tally
 pub as_written : (rule : Rule) (row : Row) (cells : List ℕ) (z : Sense) (tally : ℕ) → (rule.row ≡ row) × (rule.sense ≡ z) × (rule.tally ≡ tally) → vec_items row.cells ≡ cells

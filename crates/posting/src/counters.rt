@@ -11,11 +11,13 @@ pub enum Counter {
     Table,
 }
 
-impl Counter {
-    // The kind that a number stands for: that of the frame which gives such an automaton.
-    pub fn from_number(number: u8) -> Result<Counter, PostFault>
-        ensures { MatchResult result (λ k. counter_number k ≡ number) (CounterFault number) }
-    {
+// The kind that a number stands for: that of the frame which gives such an automaton.
+impl TryFrom<u8> for Counter {
+    type Error = PostFault;
+
+    ghost try_from_gives = { λ number r. MatchResult r (λ k. counter_number k ≡ number) (CounterFault number) };
+
+    fn try_from(number: u8) -> Result<Counter, PostFault> {
         match number {
             0x03 => Ok(Counter::Among),
             0x04 => Ok(Counter::Word),

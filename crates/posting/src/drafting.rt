@@ -1,7 +1,6 @@
 // The draft of a file: masks, automata and rules, as they are posted.
-ghost use Rattle.std.specs.Prelude.{◌≤◌};
-
 use crate::kept::KeptTable;
+use crate::sizes::PlanSize;
 use crate::slots::Slot;
 use automata::{Among, Map, Table};
 use counting::Counting;
@@ -16,13 +15,12 @@ pub mod posts;
 // What a file has posted so far, for a plan of so many cells.
 #[derive(Drop)]
 pub struct FileDraft {
-    size: u8,
+    size: PlanSize,
     draft: Draft,
     among: Slot<Among>,
     word: Slot<Word>,
     table: Slot<KeptTable>,
     classes: Option<[u8; 16]>,
-    ghost within: { size ≤ 192 },
 }
 
 // What came of a frame: it was posted, or it asks for the start.
@@ -38,7 +36,7 @@ pub type Rules<'a> = Pair<Pair<Counting<Among>, Counting<Map<Word>>>, Counting<T
 // What a plan starts from.
 #[derive(Drop)]
 pub struct Finished<'a> {
-    pub size: u8,
+    pub size: PlanSize,
     pub draft: Draft,
     pub rules: Rules<'a>,
 }

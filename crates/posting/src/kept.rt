@@ -2,64 +2,45 @@
 //
 // The bytes of a line are gone when the next line is read, so a table that a file gives is copied once,
 // when it is posted. `table` then lends the copy to the automaton.
-ghost use Rattle.std.specs.Prelude.{◌≡◌, ℕ, ◌*◌, ◌/◌, ◌<◌, ◌≤◌, length, take, replicate, MatchResult, slice_index};
+ghost use Rattle.std.specs.Prelude.{◌≡◌, replicate, MatchResult};
 ghost use Rattle.automata.specs.Faults.{TableFault};
 ghost use Rattle.automata.specs.Kinds.{GoodTable};
 
+use arrayvec::ArrayVec;
 use automata::Table;
 use refusals::PostFault;
 
 // As many bytes as a table of sixteen states has.
 const MOST_BYTES: usize = 256;
 
-#[derive(Clone, Copy)]
+#[derive(Drop)]
 pub struct KeptTable {
     states: u8,
-    bytes: [u8; MOST_BYTES],
-    ghost some: { 1 ≤ states },
-    ghost few: { states ≤ 16 },
-    ghost whole: { length (take (16 * states) bytes) ≡ 16 * states },
-    ghost below: { (k : ℕ) → k < length (take (16 * states) bytes) → slice_index (take (16 * states) bytes) k / 16 < states },
-}
-
-// The bytes at the front of an array.
-fn in_front(bytes: &[u8]) -> [u8; MOST_BYTES]
-    requires { length bytes.now ≤ 256 }
-    ensures { take (length bytes.now) result ≡ bytes.now }
-{
-    let mut front = [0; MOST_BYTES];
-    front[0..bytes.len()].copy_from_slice(bytes);
-    front
+    bytes: ArrayVec<u8, MOST_BYTES>,
+    ghost good: { GoodTable states bytes.items },
 }
 
 impl KeptTable {
     // One state, and nothing counts.
     pub fn blank() -> KeptTable
-        ensures { (result.states ≡ 1) × (take 16 result.bytes ≡ replicate 16 0) }
+        ensures { (result.states ≡ 1) × (result.bytes.items ≡ replicate 16 0) }
     {
-        KeptTable {
-            states: 1,
-            bytes: [0; MOST_BYTES],
-        }
+        KeptTable::copy_of(1, &[0; 16]).unwrap()
     }
 
     // A copy of a table that is one.
     pub fn copy_of(states: u8, steps: &[u8]) -> Result<KeptTable, PostFault>
-        ensures { MatchResult result (λ k. GoodTable states steps.now × (k.states ≡ states) × (take (16 * states) k.bytes ≡ steps.now)) (TableFault states steps.now) }
+        ensures { MatchResult result (λ k. GoodTable states steps.now × (k.states ≡ states) × (k.bytes.items ≡ steps.now)) (TableFault states steps.now) }
     {
         Table::new(states, steps)?;
-        let bytes = in_front(steps);
+        let bytes = ArrayVec::try_from(steps).unwrap();
         Ok(KeptTable { states, bytes })
     }
 
     // The automaton that reads the bytes.
     pub fn table(&self) -> Table<'_>
-        ensures { (result.states ≡ self.now.states) × (result.steps.now ≡ take (16 * self.now.states) self.now.bytes) }
+        ensures { (result.states ≡ self.now.states) × (result.steps.now ≡ self.now.bytes.items) }
     {
-        let states = self.states;
-        match Table::new(states, &self.bytes[..16 * states as usize]) {
-            Ok(table) => table,
-            Err(_) => unreachable(),
-        }
+        Table::new(self.states, self.bytes.as_slice()).unwrap()
     }
 }

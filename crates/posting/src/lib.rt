@@ -11,4 +11,5 @@
 pub mod counters;
 pub mod drafting;
 pub mod kept;
+pub mod sizes;
 pub mod slots;

@@ -21,10 +21,7 @@ const OWN_CLASSES: [u8; 16] = [0, 1, 2, 3, 4, 5, 6, 7, 8, 9, 10, 11, 12, 13, 14,
 fn any_word() -> Word
     ensures { duties_of result ≡ 0 ∷ [] }
 {
-    match Word::new(&[0]) {
-        Ok(word) => word,
-        Err(_) => unreachable(),
-    }
+    Word::new(&[0]).unwrap()
 }
 
 // The set's rules.
@@ -33,10 +30,7 @@ fn set_rules(slot: Slot<Among>) -> Counting<Among>
     ensures rules { result.rules.items ≡ slot.rules.rules.items }
 {
     let (set, rules) = slot.finish();
-    match set {
-        Some(set) => rules.over(set),
-        None => rules.over(Among::new(0)),
-    }
+    rules.over(set.unwrap_or(Among::new(0)))
 }
 
 // The word's rules, under its map.
@@ -47,10 +41,7 @@ fn word_rules(slot: Slot<Word>, classes: Option<[u8; 16]>) -> Counting<Map<Word>
 {
     let (word, rules) = slot.finish();
     let classes = classes.unwrap_or(OWN_CLASSES);
-    match word {
-        Some(word) => rules.over(Map::new(classes, word)),
-        None => rules.over(Map::new(classes, any_word())),
-    }
+    rules.over(Map::new(classes, word.unwrap_or_else(any_word)))
 }
 
 // The table, or one that stands in for it, and its rules.
@@ -59,10 +50,7 @@ fn table_rules(slot: Slot<KeptTable>) -> (KeptTable, Counting<()>)
     ensures rules { result.1 ≡ slot.rules }
 {
     let (table, rules) = slot.finish();
-    match table {
-        Some(table) => (table, rules),
-        None => (KeptTable::blank(), rules),
-    }
+    (table.unwrap_or_else(KeptTable::blank), rules)
 }
 
 impl FileDraft {

@@ -6,6 +6,7 @@ ghost use Rattle.posting.specs.Posts.{MasksSet, NoMasks, SetGiven, WordGiven, Ta
 
 use super::FileDraft;
 use crate::kept::KeptTable;
+use crate::sizes::PlanSize;
 use crate::slots::Slot;
 use automata::{Among, check_classes};
 use planning::plan::Draft;
@@ -18,11 +19,8 @@ impl FileDraft {
     pub fn new(heap: Global, size: u8) -> Result<FileDraft, FrameFault>
         ensures { MatchResult result (λ d. (1 ≤ size) × (size ≤ 192) × (sheet_of d ≡ new_sheet size)) (λ e. (e ≡ Cells) × ((size ≡ 0) ⊎ (193 ≤ size))) }
     {
-        if size < 1 || size > 192 {
-            return Err(FrameFault::Cells);
-        }
         Ok(FileDraft {
-            size,
+            size: PlanSize::try_from(size)?,
             draft: Draft::new(),
             among: Slot::new(heap),
             word: Slot::new(heap),
@@ -35,9 +33,9 @@ impl FileDraft {
     pub(super) fn set_masks(&mut self, first: u8, number: u8, mask: u16) -> Result<(), PostFault>
         ensures { MatchResult result (λ _. MasksSet first number mask (sheet_of self.old) (sheet_of self.new)) (λ e. (sheet_of self.new ≡ sheet_of self.old) × NoMasks first number mask (sheet_of self.old) e) }
     {
-        let first = first as usize;
-        let number = number as usize;
-        if first + number > self.size as usize {
+        let first = usize::from(first);
+        let number = usize::from(number);
+        if first + number > self.size.count() {
             return Err(PostFault::Range);
         }
         self.draft.set_range(first, number, mask)

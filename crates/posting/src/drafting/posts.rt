@@ -25,9 +25,9 @@ impl FileDraft {
     ) -> Result<(), PostError>
         ensures { MatchResult result (λ _. RulePosted automaton sense tally cells.now (sheet_of self.old) (sheet_of self.new)) (λ e. (sheet_of self.new ≡ sheet_of self.old) × NoRule automaton sense tally cells.now (sheet_of self.old) e) }
     {
-        let row = Row::new(heap, cells, self.size as usize)?;
+        let row = Row::new(heap, cells, self.size.count())?;
         let sense = Sense::try_from(sense)?;
-        let counter = Counter::from_number(automaton)?;
+        let counter = Counter::try_from(automaton)?;
         let rule = Rule::new(row, sense, tally)?;
         match counter {
             Counter::Among => self.among.post(rule),

@@ -1,43 +1,42 @@
-use Rattle.std.proofs.Common.{◌≡◌, ℕ, [], ◌∷◌, vec_items, refl, subst, arith}
+use Rattle.std.proofs.Common.{◌≡◌, [], ◌∷◌, vec_items, refl, subst, arith}
 use Rattle.std.proofs.lemmas.List.{map-append}
 use Rattle.std.proofs.lemmas.Result.{err_from_is_err_and}
 use Rattle.automata.specs.declared.Among.{Among as AmongSet}
-use Rattle.rules.specs.Rows.{GoodRow}
 use Rattle.posting.specs.Sheets.{written, duties_of, steps_of}
 use Rattle.posting.specs.declared.counters.Counter.{Counter}
 use Rattle.posting.specs.declared.counters.Counter.TheVariants.{Among, Word, Table}
 use Rattle.posting.specs.Counters.{counter_number}
 use Rattle.posting.specs.Posts.{RuleIs, no_sense, no_kind, no_count}
-use Rattle.posting.proofs.Posting.{own_limit, row_refused, rule_posted, as_written, given_still}
+use Rattle.posting.proofs.Posting.{own_row, row_refused, rule_posted, as_written, given_still}
 use Rattle.posting.proofs.drafting.FileDraft.post_rule.Goals as goal
 
 pub returns-in_err-row : goal.returns-in_err-row
 returns-in_err-row c =
     let p = err_from_is_err_and c.from_residual.result c.from_residual.ensures.1 in
-    rw (p.1, p.2) (refl, row_refused _ _ _ _ _ c.in_err-row.field-0.0 c.args.self.now.within c.in_err-row.ensures)
+    rw (p.1, p.2) (refl, row_refused _ _ _ _ _ _ c.in_err-row.field-0.0 c.count.ensures c.args.self.now.size.within c.in_err-row.ensures)
 
 pub returns-in_err-sense : goal.returns-in_err-sense
 returns-in_err-sense c =
     let p = err_from_is_err_and c.from_residual-in_err-sense.result c.from_residual-in_err-sense.ensures.1 in
-    let row = subst (λ (n : ℕ). GoodRow n c.args.cells.now) (own_limit _ c.args.self.now.within) c.in_ok-row.ensures.0 in
+    let row = own_row _ _ _ c.count.ensures c.args.self.now.size.within c.in_ok-row.ensures.0 in
     rw (p.1, p.2) (refl, no_sense row _ c.in_err-sense.ensures)
 
 pub returns-in_err-counter : goal.returns-in_err-counter
 returns-in_err-counter c =
     let p = err_from_is_err_and c.from_residual-in_err-counter.result c.from_residual-in_err-counter.ensures.1 in
-    let row = subst (λ (n : ℕ). GoodRow n c.args.cells.now) (own_limit _ c.args.self.now.within) c.in_ok-row.ensures.0 in
+    let row = own_row _ _ _ c.count.ensures c.args.self.now.size.within c.in_ok-row.ensures.0 in
     rw (p.1, p.2) (refl, no_kind row c.in_ok-sense.sense c.in_ok-sense.ensures _ c.in_err-counter.ensures)
 
 pub returns-in_err-rule : goal.returns-in_err-rule
 returns-in_err-rule c =
     let p = err_from_is_err_and c.from_residual-in_err-rule.result c.from_residual-in_err-rule.ensures.1 in
-    let row = subst (λ (n : ℕ). GoodRow n c.args.cells.now) (own_limit _ c.args.self.now.within) c.in_ok-row.ensures.0 in
+    let row = own_row _ _ _ c.count.ensures c.args.self.now.size.within c.in_ok-row.ensures.0 in
     let is : RuleIs c.args.automaton c.args.sense c.in_ok-counter.counter c.in_ok-sense.sense = record { kind = c.in_ok-counter.ensures; meets = c.in_ok-sense.ensures } in
     rw (p.1, p.2, c.in_err-rule.ensures.0) (refl, no_count row c.in_ok-counter.counter c.in_ok-sense.sense is c.in_err-rule.ensures.1)
 
 pub returns-in-Among : goal.returns-in-Among
 returns-in-Among c =
-    let row = subst (λ (n : ℕ). GoodRow n c.args.cells.now) (own_limit _ c.args.self.now.within) c.in_ok-row.ensures.0 in
+    let row = own_row _ _ _ c.count.ensures c.args.self.now.size.within c.in_ok-row.ensures.0 in
     let kind : counter_number Among ≡ c.args.automaton = subst (λ (k : Counter). counter_number k ≡ c.args.automaton) c.in-Among.is c.in_ok-counter.ensures in
     let is : RuleIs c.args.automaton c.args.sense Among c.in_ok-sense.sense = record { kind = kind; meets = c.in_ok-sense.ensures } in
     let rule = c.in_ok-rule.rule in
@@ -51,7 +50,7 @@ returns-in-Among c =
 
 pub returns-in-Word : goal.returns-in-Word
 returns-in-Word c =
-    let row = subst (λ (n : ℕ). GoodRow n c.args.cells.now) (own_limit _ c.args.self.now.within) c.in_ok-row.ensures.0 in
+    let row = own_row _ _ _ c.count.ensures c.args.self.now.size.within c.in_ok-row.ensures.0 in
     let kind : counter_number Word ≡ c.args.automaton = subst (λ (k : Counter). counter_number k ≡ c.args.automaton) c.in-Word.is c.in_ok-counter.ensures in
     let is : RuleIs c.args.automaton c.args.sense Word c.in_ok-sense.sense = record { kind = kind; meets = c.in_ok-sense.ensures } in
     let rule = c.in_ok-rule.rule in
@@ -65,7 +64,7 @@ returns-in-Word c =
 
 pub returns-in-Table : goal.returns-in-Table
 returns-in-Table c =
-    let row = subst (λ (n : ℕ). GoodRow n c.args.cells.now) (own_limit _ c.args.self.now.within) c.in_ok-row.ensures.0 in
+    let row = own_row _ _ _ c.count.ensures c.args.self.now.size.within c.in_ok-row.ensures.0 in
     let kind : counter_number Table ≡ c.args.automaton = subst (λ (k : Counter). counter_number k ≡ c.args.automaton) c.in-Table.is c.in_ok-counter.ensures in
     let is : RuleIs c.args.automaton c.args.sense Table c.in_ok-sense.sense = record { kind = kind; meets = c.in_ok-sense.ensures } in
     let rule = c.in_ok-rule.rule in

@@ -2,7 +2,7 @@ use Rattle.std.proofs.Common.{◌≡◌, arith}
 use Rattle.posting.specs.Counters.{counter_number, no_automaton}
 use Rattle.posting.specs.declared.counters.Counter.{Counter}
 use Rattle.posting.specs.declared.counters.Counter.TheVariants.{Among, Word, Table}
-use Rattle.posting.proofs.counters.Counter.from_number.Goals as goal
+use Rattle.posting.proofs.counters.CounterTryFromU8.try_from.Goals as goal
 
 pub returns-in_default : goal.returns-in_default
 returns-in_default c = no_automaton none
