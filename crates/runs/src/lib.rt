@@ -205,6 +205,15 @@ impl<'a, C: CounterAutomaton> Swept<'a, C> {
         }
     }
 
+    // Whether an open count is met by way of a state and a duty at a place.
+    fn is_met_by(&self, tally: u64, place: usize, state: usize, duty: usize) -> bool
+        requires place { place < length self.now.masks.now }
+        requires state { state < (C.CounterAutomaton.meaning self.now.automaton.now).states }
+        ensures { Decides result ((k : ℕ) × (k < 64) × In tally k × MetThrough self.now.sense (C.CounterAutomaton.meaning self.now.automaton.now) self.now.masks.now place state duty k) }
+    {
+        self.is_reached(place, state) && overlap(self.met_through(place, state, duty), tally)
+    }
+
     // Whether a duty stays at a place.
     fn duty_stays(&self, tally: u64, place: usize, duty: usize) -> bool
         requires place { place < length self.now.masks.now }
@@ -212,14 +221,7 @@ impl<'a, C: CounterAutomaton> Swept<'a, C> {
         requires held { In (slice_index self.now.masks.now place) duty }
         ensures { Decides result (DutyStays (C.CounterAutomaton.meaning self.now.automaton.now) self.now.masks.now self.now.sense tally place duty) }
     {
-        for state in 0..self.automaton.states() {
-            if self.is_reached(place, state)
-                && overlap(self.met_through(place, state, duty), tally)
-            {
-                return true;
-            }
-        }
-        false
+        (0..self.automaton.states()).any(|state| self.is_met_by(tally, place, state, duty))
     }
 
     // The duties that stay at a place.
