@@ -151,7 +151,7 @@ fn try_range(bench: &mut Bench, dice: &mut Dice) -> Result<(), Stop> {
 
 fn try_sense(bench: &mut Bench, dice: &mut Dice) -> Result<(), Stop> {
     let number = (dice.below(5) % 256) as u8;
-    let kernel = match Sense::from_number(number) {
+    let kernel = match Sense::try_from(number) {
         Ok(_) => FINE,
         Err(fault) => fault_answer(fault),
     };
