@@ -1,5 +1,5 @@
 -- What a question answers.
-use Rattle.std.proofs.Common.{◌≡◌, ℕ, ◌<◌, ◌≤◌, cond, length, get_or, Some, None, Ok, Err, Option, Result, sym, refl, ap, ⊎_elim, arith}
+use Rattle.std.proofs.Common.{◌≡◌, ℕ, ◌<◌, ◌≤◌, cond, length, get_or, None, Ok, Err, Option, Result, ap, ⊎_elim}
 use Rattle.std.proofs.lemmas.Bool.{cases_lt}
 use Rattle.measures.specs.declared.Figures.{Figures}
 use Rattle.refusals.specs.declared.PlanFault.{PlanFault}
@@ -11,15 +11,7 @@ use Rattle.planning.specs.Views.{held, figured}
 use Rattle.planning.proofs.Asking.{no_tally, short_figures, cell_held, tally_held}
 use Rattle.planning.proofs.Refusing.{figures_free}
 
--- an answer that is no refusal
-abbrev given : Answer → ℕ
-given (refused e) = 0
-given (done n k) = 1
-given (failed o n k) = 1
-given (level n) = 1
-given (holds x) = 1
-given (figures o) = 1
-
+-- what an answer says
 abbrev value : Answer → ℕ
 value (holds x) = x
 value (refused e) = 0
@@ -36,38 +28,22 @@ shown (done n k) = None
 shown (failed o n k) = None
 shown (level n) = None
 
-apart : {a b : Answer} → a ≡ b → given a ≡ 0 → given b ≡ 1 → ⊥
-apart {a} {b} e p q = omega (arith, ap given e)
-
-pub some_is_not_none : {A : Type 0} {x : A} → Some x ≡ None → ⊥
-some_is_not_none {A} {x} h = let z : ◌≡◌ {A = ℕ} 1 0 = ap number h in omega arith
-  where
-    number : Option A → ℕ
-    number (Some y) = 1
-    number None = 0
-
-pub ok_is_not_err : {x : ℕ} {e : PlanFault} → ◌≡◌ {A = Result ℕ PlanFault} (Ok x) (Err e) → ⊥
-ok_is_not_err {x} {e} h = apart (ap held (sym h)) refl refl
-
-pub ok_same : {x y : ℕ} → ◌≡◌ {A = Result ℕ PlanFault} (Ok x) (Ok y) → x ≡ y
-ok_same h = ap (λ (r : Result ℕ PlanFault). value (held r)) h
-
 module _ (m : Meaning) (p : View) where
   pub cell_answer : (i w : ℕ) (r : Result ℕ PlanFault) → i < 192 → Step m p (ask (of_cell i) w) (held r) p → r ≡ Ok (get_or p.now.cells i 0)
   cell_answer i w (Ok x) h s = ap Ok (ap value (step_one m p s (cell_held m p i w h)).0)
-  cell_answer i w (Err e) h s = absurd (apart (step_one m p s (cell_held m p i w h)).0 refl refl)
+  cell_answer i w (Err e) h s = cc (step_one m p s (cell_held m p i w h)).0
 
   pub tally_answer : (r w : ℕ) (x : ℕ) → Step m p (ask (of_tally r) w) (held (Ok x)) p → (r < m.rules) × (x ≡ get_or p.now.tallies r 0)
-  tally_answer r w x s = ⊎_elim (λ h. (h, ap value (step_one m p s (tally_held m p r w h)).0)) (λ h. absurd (apart (step_one m p (no_tally m p r w h) s).0 refl refl)) (cases_lt r m.rules)
+  tally_answer r w x s = ⊎_elim (λ h. (h, ap value (step_one m p s (tally_held m p r w h)).0)) (λ h. cc (step_one m p (no_tally m p r w h) s).0) (cases_lt r m.rules)
 
   pub tally_refused : (r w : ℕ) (e : PlanFault) → Step m p (ask (of_tally r) w) (held (Err e)) p → m.rules ≤ r
-  tally_refused r w e s = ⊎_elim (λ h. absurd (apart (step_one m p s (tally_held m p r w h)).0 refl refl)) (λ h. h) (cases_lt r m.rules)
+  tally_refused r w e s = ⊎_elim (λ h. cc (step_one m p s (tally_held m p r w h)).0) (λ h. h) (cases_lt r m.rules)
 
   pub figures_answer : (r w : ℕ) (o : Option Figures) → r < m.rules → Step m p (ask (of_figures r) w) (figured (Ok o)) p → o ≡ cond p.void None ((m.rule r).figures p.now.cells)
   figures_answer r w o h s =
-      ⊎_elim (λ k. absurd (apart (step_one m p (short_figures m p r w h k) s).0 refl refl))
+      ⊎_elim (λ k. cc (step_one m p (short_figures m p r w h k) s).0)
       (λ k. ap shown (step_one m p s (Step.tells (of_figures r) w (figures_free m p.void (length p.below) r w h k))).0) (cases_lt w workspace_needed)
 
   pub figures_refused : (r w : ℕ) (e : PlanFault) → r < m.rules → Step m p (ask (of_figures r) w) (figured (Err e)) p → w < workspace_needed
   figures_refused r w e h s =
-      ⊎_elim (λ k. k) (λ k. absurd (apart (step_one m p s (Step.tells (of_figures r) w (figures_free m p.void (length p.below) r w h k))).0 refl refl)) (cases_lt w workspace_needed)
+      ⊎_elim (λ k. k) (λ k. cc (step_one m p s (Step.tells (of_figures r) w (figures_free m p.void (length p.below) r w h k))).0) (cases_lt w workspace_needed)

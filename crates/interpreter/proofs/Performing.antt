@@ -1,5 +1,5 @@
 -- Frames one after the other: one more, and its place in the list.
-use Rattle.std.proofs.Common.{◌≡◌, ℕ, ◌+◌, ◌<◌, true, false, List, [], ◌∷◌, ◌++◌, length, get_or, take, set, vec_items, sym, refl, subst, append_assoc, append-nil, arith}
+use Rattle.std.proofs.Common.{◌≡◌, ℕ, ◌+◌, ◌<◌, true, false, List, [], ◌∷◌, ◌++◌, length, get_or, take, set, vec_items, sym, refl, subst, append_assoc, append-nil}
 use Rattle.std.proofs.lemmas.List.{take_more, take_more_set}
 use Rattle.refusals.specs.declared.FrameFault.{FrameFault}
 use Rattle.refusals.specs.Posting.{FrameError}
@@ -59,7 +59,7 @@ one_of {p = p} (decided cell mask r q (beyond l)) e = ([], [], Is.beyond cell ma
 one_of (bounded rule tally r q h) e = (_, _, Is.bound rule tally r, one_call h)
 one_of (marked r q h) e = (_, _, Is.mark r, one_call h)
 one_of (backed r q h) e = (_, _, Is.back r, one_call h)
-one_of publishes e = let z : ◌≡◌ {A = ℕ} 0 1 = cc in absurd (omega arith)
+one_of publishes e = cc e
 
 pub makes_none : (m : Meaning) (size w : ℕ) (p : View) → Makes m size w p [] [] p
 makes_none m size w p = record { calls = []; answers = []; are = Are.end; ran = Ran.end p }

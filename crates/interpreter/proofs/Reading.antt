@@ -1,5 +1,5 @@
 -- The frames that may come to a running plan make calls.
-use Rattle.std.proofs.Common.{◌≡◌, ℕ, true, List, Some, None, Ok, Err, Option, Result, sym, refl, ap, ◌∙◌, arith}
+use Rattle.std.proofs.Common.{◌≡◌, ℕ, true, List, Some, None, Ok, Err, Result, sym, refl, ap, ◌∙◌}
 use Rattle.refusals.specs.declared.FrameFault.{FrameFault}
 use Rattle.refusals.specs.declared.PlanFault.{PlanFault}
 use Rattle.planning.specs.declared.plan.Try.{Try}
@@ -13,15 +13,8 @@ use Rattle.wire.specs.Reading.{Reads}
 use Rattle.interpreter.specs.declared.file.Told.TheVariants.{Decided, Bounded}
 use Rattle.interpreter.specs.Calls.{leaves_workspace, NoCall, size, masks, among, word, table, map, rule, start}
 
-none_is_not_some : {A : Type 0} (x : A) → None ≡ Some x → ⊥
-none_is_not_some x e = let z : ◌≡◌ {A = ℕ} 0 1 = ap number e in omega arith
-  where
-    number : {A : Type 0} → Option A → ℕ
-    number None = 0
-    number (Some x) = 1
-
 no_order : (kind other : Kind) (after : Phase) → phase_after Running kind ≡ Some after → kind ≡ other → phase_after Running other ≡ None → ⊥
-no_order kind other after order is none = none_is_not_some after (sym none ∙ (ap (phase_after Running) (sym is) ∙ order))
+no_order kind other after order is none = cc (sym none ∙ (ap (phase_after Running) (sym is) ∙ order))
 
 pub read_is_call : (bytes : List ℕ) (after : Phase) (f : Frame) (e : FrameFault) → Reads Running bytes after f → NoCall f e → ⊥
 read_is_call bytes after f e r (size n) = no_order r.kind kinds.Size after r.order r.body.shows.0 refl
@@ -35,9 +28,9 @@ read_is_call bytes after f e r start = no_order r.kind kinds.Start after r.order
 
 -- a try that is refused leaves the workspace
 pub decide_leaves : (cell : ℕ) (r : Result Try PlanFault) {xs ys : List ℕ} → ((e : PlanFault) → r ≡ Err e → xs ≡ ys) → leaves_workspace {E = FrameFault} (Ok (Decided cell r)) ≡ true → xs ≡ ys
-decide_leaves cell (Ok t) f h = let z : ◌≡◌ {A = ℕ} 0 1 = cc in absurd (omega arith)
+decide_leaves cell (Ok t) f h = cc h
 decide_leaves cell (Err e) f h = f e refl
 
 pub bound_leaves : (n : ℕ) (r : Result Try PlanFault) {xs ys : List ℕ} → ((e : PlanFault) → r ≡ Err e → xs ≡ ys) → leaves_workspace {E = FrameFault} (Ok (Bounded n r)) ≡ true → xs ≡ ys
-bound_leaves n (Ok t) f h = let z : ◌≡◌ {A = ℕ} 0 1 = cc in absurd (omega arith)
+bound_leaves n (Ok t) f h = cc h
 bound_leaves n (Err e) f h = f e refl

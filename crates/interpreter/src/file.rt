@@ -1,9 +1,8 @@
 // The running plan of a file, and its roster.
-ghost use Rattle.std.specs.Prelude.{◌≤◌};
-
 use measures::Figures;
 use planning::plan::{Plan, Roster, Start, Try};
 use posting::drafting::Rules;
+use posting::sizes::PlanSize;
 use refusals::PlanFault;
 
 pub mod calls;
@@ -13,17 +12,15 @@ pub mod starts;
 // A plan of so many cells that a file has started.
 #[derive(Drop)]
 pub struct FilePlan<'a> {
-    size: u8,
+    size: PlanSize,
     plan: Plan<Rules<'a>>,
-    ghost within: { size ≤ 192 },
 }
 
 // The same, published.
 #[derive(Drop)]
 pub struct FileRoster<'a> {
-    size: u8,
+    size: PlanSize,
     roster: Roster<Rules<'a>>,
-    ghost within: { size ≤ 192 },
 }
 
 // What a frame from the start on came to.

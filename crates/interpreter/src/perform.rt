@@ -35,10 +35,10 @@ pub fn post_all(draft: &mut FileDraft, heap: Global, posts: &[Frame]) -> Result<
 fn asks_call(frame: Frame) -> bool
     ensures { result ≡ is_call frame.entry }
 {
-    match frame {
-        Frame::Decide { .. } | Frame::Bound { .. } | Frame::Mark | Frame::Back => true,
-        _ => false,
-    }
+    matches!(
+        frame,
+        Frame::Decide { .. } | Frame::Bound { .. } | Frame::Mark | Frame::Back
+    )
 }
 
 // Makes the calls of a list, until a frame asks for none, or the list or the room for answers is used
@@ -52,17 +52,18 @@ pub fn call_all<'a>(
     ensures same { (plan.new.size ≡ plan.old.size) × (plan.new.plan.held.family ≡ plan.old.plan.held.family) }
     ensures stops { Stops calls.now (length told.old) result }
     ensures beyond { (k : ℕ) (d : Told) → result ≤ k → slice_index_or told.new k d ≡ slice_index_or told.old k d }
-    ensures made { Makes (rules_meaning plan.old.plan.held.family) plan.old.size (length workspace.old) (view plan.old.plan) (take result calls.now) (take result told.new) (view plan.new.plan) }
+    ensures made { Makes (rules_meaning plan.old.plan.held.family) plan.old.size.cells (length workspace.old) (view plan.old.plan) (take result calls.now) (take result told.new) (view plan.new.plan) }
 {
     let number = calls.len().min(told.len());
+    // An index loop: nothing is known of what a loop over an adapter of `iter_mut` wrote.
     for i in 0..number {
         if !asks_call(calls[i]) {
             return i;
         }
-        match plan.take(calls[i], workspace) {
-            Ok(answer) => told[i] = answer,
-            Err(_) => return i,
-        }
+        let Ok(answer) = plan.take(calls[i], workspace) else {
+            return i;
+        };
+        told[i] = answer;
     }
     number
 }

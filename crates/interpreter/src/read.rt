@@ -45,7 +45,7 @@ pub fn plan_line<'a>(
 ) -> Result<Told, LineFault>
     ensures workspace { leaves_workspace result ≡ true → workspace.new ≡ workspace.old }
     ensures same { (plan.new.size ≡ plan.old.size) × (plan.new.plan.held.family ≡ plan.old.plan.held.family) }
-    ensures tells { MatchResult result (λ t. CallLine line.entry.text.now line.entry.ended (rules_meaning plan.old.plan.held.family) plan.old.size (length workspace.old) (view plan.old.plan) t (view plan.new.plan)) (λ e. (view plan.new.plan ≡ view plan.old.plan) × NoCallLine line.entry.text.now line.entry.ended e) }
+    ensures tells { MatchResult result (λ t. CallLine line.entry.text.now line.entry.ended (rules_meaning plan.old.plan.held.family) plan.old.size.cells (length workspace.old) (view plan.old.plan) t (view plan.new.plan)) (λ e. (view plan.new.plan ≡ view plan.old.plan) × NoCallLine line.entry.text.now line.entry.ended e) }
 {
     let mut bytes = FrameBytes::new();
     let (_, frame) = read_line(Phase::Running, line, &mut bytes)?;

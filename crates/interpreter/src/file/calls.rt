@@ -15,9 +15,9 @@ impl<'a> FilePlan<'a> {
     fn decide(&mut self, cell: usize, mask: u16, workspace: &mut [u64]) -> Result<Try, PlanFault>
         ensures same { (self.new.size ≡ self.old.size) × (self.new.plan.held.family ≡ self.old.plan.held.family) }
         ensures refused_leaves_workspace { (e : PlanFault) → result ≡ Err e → workspace.new ≡ workspace.old }
-        ensures decides { Decides (rules_meaning self.old.plan.held.family) self.old.size (length workspace.old) (view self.old.plan) cell mask result (view self.new.plan) }
+        ensures decides { Decides (rules_meaning self.old.plan.held.family) self.old.size.cells (length workspace.old) (view self.old.plan) cell mask result (view self.new.plan) }
     {
-        if cell >= self.size as usize {
+        if cell >= self.size.count() {
             return Err(PlanFault::Cell);
         }
         self.plan.decide(cell, mask, workspace)
@@ -27,7 +27,7 @@ impl<'a> FilePlan<'a> {
     pub fn take(&mut self, frame: Frame, workspace: &mut [u64]) -> Result<Told, FrameFault>
         ensures same { (self.new.size ≡ self.old.size) × (self.new.plan.held.family ≡ self.old.plan.held.family) }
         ensures workspace { leaves_workspace result ≡ true → workspace.new ≡ workspace.old }
-        ensures tells { MatchResult result (λ t. Tells (rules_meaning self.old.plan.held.family) self.old.size (length workspace.old) (view self.old.plan) frame.entry t (view self.new.plan)) (λ e. NoCall frame.entry e × (view self.new.plan ≡ view self.old.plan)) }
+        ensures tells { MatchResult result (λ t. Tells (rules_meaning self.old.plan.held.family) self.old.size.cells (length workspace.old) (view self.old.plan) frame.entry t (view self.new.plan)) (λ e. NoCall frame.entry e × (view self.new.plan ≡ view self.old.plan)) }
     {
         match frame {
             Frame::Decide { cell, mask } => {

@@ -8,15 +8,13 @@ use super::{CellLine, FileRoster, RuleLine};
 impl<'a> FileRoster<'a> {
     // One of the file's cells and its mask; none past the last.
     pub fn cell(&self, cell: usize) -> Option<CellLine>
-        ensures { MatchOption result (self.now.size ≤ cell) (λ t. (cell < self.now.size) × (t.cell ≡ cell) × (t.mask ≡ slice_index self.now.roster.held.masks.cells cell)) }
+        ensures { MatchOption result (self.now.size.cells ≤ cell) (λ t. (cell < self.now.size.cells) × (t.cell ≡ cell) × (t.mask ≡ slice_index self.now.roster.held.masks.cells cell)) }
     {
-        if cell >= self.size as usize {
+        if cell >= self.size.count() {
             return None;
         }
-        match self.roster.cell(cell) {
-            Ok(mask) => Some(CellLine { cell, mask }),
-            Err(_) => unreachable(),
-        }
+        let mask = self.roster.cell(cell).unwrap();
+        Some(CellLine { cell, mask })
     }
 
     // One of the rules, its tally and its figures; none past the last, or on a short workspace.
@@ -27,13 +25,13 @@ impl<'a> FileRoster<'a> {
         let Ok(tally) = self.roster.tally(rule) else {
             return None;
         };
-        match self.roster.figures(rule, workspace) {
-            Ok(figures) => Some(RuleLine {
-                rule,
-                tally,
-                figures,
-            }),
-            Err(_) => None,
-        }
+        let Ok(figures) = self.roster.figures(rule, workspace) else {
+            return None;
+        };
+        Some(RuleLine {
+            rule,
+            tally,
+            figures,
+        })
     }
 }

@@ -20,7 +20,7 @@ impl<'a> FilePlan<'a> {
         room: &'a mut KeptTable,
         workspace: &mut [u64],
     ) -> (FilePlan<'a>, Start)
-        ensures rules { (result.0.size ≡ (sheet_of draft).size) × (rules_meaning result.0.plan.held.family ≡ meaning_of (sheet_of draft)) }
+        ensures rules { (result.0.size.cells ≡ (sheet_of draft).size) × (rules_meaning result.0.plan.held.family ≡ meaning_of (sheet_of draft)) }
         ensures cells { DraftCells (sheet_of draft).masks }
         ensures begun { workspace_needed ≤ length workspace.old → Begun (meaning_of (sheet_of draft)) (sheet_of draft).masks (started result.1) (view result.0.plan) }
         ensures short { length workspace.old < workspace_needed → (result.1 ≡ Short) × (view result.0.plan ≡ voided) × (workspace.new ≡ workspace.old) }

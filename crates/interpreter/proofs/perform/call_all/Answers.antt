@@ -1,18 +1,23 @@
-use Rattle.std.proofs.Common.{◌≡◌, ◌<◌, length, sym, refl, ap, ◌∙◌, arith}
+use Rattle.std.proofs.Common.{◌<◌, length, sym, refl, ap, ◌∙◌, arith}
 use Rattle.std.proofs.lemmas.List.{get_or-set_other}
 use Rattle.posting.specs.Families.{rules_meaning}
+use Rattle.posting.specs.declared.sizes.PlanSize.{PlanSize}
 use Rattle.wire.specs.declared.frame.Frame.TheVariants as frame
-use Rattle.interpreter.proofs.Performing.{makes_none, makes_next, makes_at, tells_as, no_call_is_none, made_up_to}
+use Rattle.interpreter.proofs.Performing.{makes_none, makes_next, makes_at, tells_as, no_call_is_none}
 use Rattle.interpreter.proofs.perform.call_all.Goals as goal
 
 pub loop-i-init : goal.loop-i-init
 loop-i-init c = (refl, refl, makes_none _ _ _ _, λ k d h. refl)
 
-pub returns-in-Err : goal.returns-in-Err
-returns-in-Err c =
-    let inv = c.loop-i.invariant in
-    let same = c.take.ensures.same in
-    record { same = (same.0 ∙ inv.0, same.1 ∙ inv.1); stops = record { in_list = omega (arith, c.loop-i-test.true, c.min-number.ensures); in_room = omega (arith, c.loop-i-test.true, c.min-number.ensures); at_end = λ h k. no_call_is_none c.in-Err.ensures.tells.0 }; beyond = inv.3; made = makes_at (sym c.in-Err.ensures.tells.1) inv.2 }
+pub returns-in_default-clause-stops : goal.returns-in_default-clause-stops
+returns-in_default-clause-stops c = record {
+  in_list = omega (arith, c.loop-i-test.true, c.min-number.ensures);
+  in_room = omega (arith, c.loop-i-test.true, c.min-number.ensures);
+  at_end = λ h k. no_call_is_none c.in_default.ensures.tells.0;
+}
+
+pub returns-in_default-clause-made : goal.returns-in_default-clause-made
+returns-in_default-clause-made c = makes_at (sym c.in_default.ensures.tells.1) c.loop-i.invariant.2
 
 pub loop-i-preserved : goal.loop-i-preserved
 loop-i-preserved c =
@@ -25,32 +30,6 @@ loop-i-preserved c =
       same.0 ∙ inv.0,
       same.1 ∙ inv.1,
       makes_next _ _ _ fs c.loop-i.told i (frame.Size 0) _ _ _ _ in-calls in_told inv.2
-          (tells_as (ap rules_meaning inv.1) inv.0 c.loop-i.auto.workspace c.in-Ok.ensures.tells) (sym c.if-not-asks_call.ensures),
+          (tells_as (ap rules_meaning inv.1) (ap (λ (x : PlanSize). x.cells) inv.0) c.loop-i.auto.workspace c.in-Ok.ensures.tells) (sym c.if-not-asks_call.ensures),
       λ k d h. get_or-set_other c.loop-i.told i k _ d (λ e. omega arith) ∙ inv.3 k d (omega arith),
     )
-
-pub returns-then-not-asks_call : goal.returns-then-not-asks_call
-returns-then-not-asks_call c =
-    let inv = c.loop-i.invariant in
-    record {
-      same = (inv.0, inv.1);
-      stops = record {
-        in_list = omega (arith, c.loop-i-test.true, c.min-number.ensures);
-        in_room = omega (arith, c.loop-i-test.true, c.min-number.ensures);
-        at_end = λ h k. sym c.if-not-asks_call.ensures;
-      };
-      beyond = inv.3;
-      made = inv.2;
-    }
-
-pub returns : goal.returns
-returns c =
-    let inv = c.loop-i.invariant in
-    let n = c.min-number.result in
-    let end : c.loop-i.i ≡ n = omega (arith, c.loop-i-test.false, c.loop-i.auto.i-end) in
-    record {
-      same = (inv.0, inv.1);
-      stops = record { in_list = omega (arith, c.min-number.ensures); in_room = omega (arith, c.min-number.ensures); at_end = λ h k. absurd (omega (arith, c.min-number.ensures, h, k)) };
-      beyond = λ k d h. inv.3 k d (omega (arith, end));
-      made = made_up_to c.args.calls.now c.loop-i.told end inv.2;
-    }
