@@ -12,14 +12,14 @@ use interpreter::read;
 use posting::drafting::{Drafted, FileDraft};
 use posting::kept::KeptTable;
 use printing::{CellText, Entry, FaultText, MemoryText, RuleText};
-use refusals::{FileFault, LineError};
+use refusals::{FileFault, LineError, LineFault};
 use std::alloc::Global;
 use std::io;
 use std::io::{BufRead, BufReader, BufWriter, Stdin, Stdout, Write};
 use wire::digits::FrameBytes;
-use wire::lines::LineBuffer;
+use wire::lines::{Line, LineBuffer};
 use wire::order::Phase;
-use wire::reader::{at_line, read_line};
+use wire::reader::read_line;
 
 // Standard input by lines, and standard output.
 #[derive(Drop)]
@@ -27,15 +27,7 @@ struct Desk {
     input: BufReader<Stdin>,
     output: BufWriter<Stdout>,
     line: LineBuffer,
-    ended: bool,
     number: u64,
-}
-
-// What is left to do after a part of the file.
-#[derive(Drop)]
-enum Then {
-    GoOn,
-    End,
 }
 
 impl Desk {
@@ -44,15 +36,14 @@ impl Desk {
             input: BufReader::new(rt.alloc(), rt.stdin())?,
             output: BufWriter::new(rt.alloc(), rt.stdout())?,
             line: LineBuffer::new(),
-            ended: false,
             number: 0,
         })
     }
 
-    // Reads the next line; false where the input is at its end.
-    fn next(&mut self) -> io::Result<bool> {
+    // Reads up to the end of the next line: whether it has a newline.
+    fn fill(&mut self) -> io::Result<bool> {
         self.line.clear();
-        self.number = self.number.saturating_add(1);
+        // Nothing bounds how many chunks a line comes in.
         for _ in 0..u64::MAX {
             if self.input.buffer().is_empty() {
                 self.output.flush()?;
@@ -60,19 +51,27 @@ impl Desk {
             let chunk = self.input.fill_buf()?;
             let number = chunk.len();
             if number == 0 {
-                self.ended = false;
-                return Ok(!self.line.is_empty());
+                break;
             }
             match self.line.extend(chunk) {
                 Some(place) => {
                     self.input.consume(place.saturating_add(1));
-                    self.ended = true;
                     return Ok(true);
                 }
                 None => self.input.consume(number),
             }
         }
         Ok(false)
+    }
+
+    // The next line; none where the input is at its end.
+    fn next(&mut self) -> io::Result<Option<Line<'_>>> {
+        let ended = self.fill()?;
+        self.number = self.number.saturating_add(1);
+        if !ended && self.line.is_empty() {
+            return Ok(None);
+        }
+        Ok(Some(self.line.line(ended)))
     }
 
     // Prints what came of the line.
@@ -84,20 +83,20 @@ impl Desk {
         writeln!(self.output, "{entry}")
     }
 
-    // Prints a fault, which ends the program with status 1.
-    fn stop(&mut self, fault: FileFault) -> anyhow::Result<()> {
-        let fault = FaultText(fault);
+    // Prints a fault of the line, which ends the program with status 1.
+    fn stop(&mut self, fault: LineFault) -> anyhow::Result<()> {
+        let line = self.number;
+        let fault = FaultText(FileFault { line, fault });
         writeln!(self.output, "{fault}")?;
         self.end()
     }
 
     // The same of a line before the start, for which there may be no memory.
     fn stop_draft(&mut self, error: LineError) -> anyhow::Result<()> {
-        let line = self.number;
         match error {
-            LineError::Fault(fault) => self.stop(FileFault { line, fault }),
+            LineError::Fault(fault) => self.stop(fault),
             LineError::Memory => {
-                let text = MemoryText { line };
+                let text = MemoryText { line: self.number };
                 writeln!(self.output, "{text}")?;
                 self.end()
             }
@@ -109,93 +108,68 @@ impl Desk {
         self.output.flush()?;
         Err(anyhow!("the file was refused"))
     }
-
-    // The first line.
-    fn open(&mut self, heap: Global) -> Result<FileDraft, FileFault> {
-        let line = self.line.line(self.ended);
-        at_line(self.number, read::open(heap, line))
-    }
-
-    // One line before the start.
-    fn draft_line(&mut self, heap: Global, draft: &mut FileDraft) -> Result<Drafted, LineError> {
-        let line = self.line.line(self.ended);
-        read::draft_line(draft, heap, line)
-    }
-
-    // One line after the start.
-    fn plan_line(
-        &mut self,
-        plan: &mut FilePlan<'_>,
-        workspace: &mut [u64],
-    ) -> Result<Told, FileFault> {
-        let line = self.line.line(self.ended);
-        at_line(self.number, read::plan_line(plan, line, workspace))
-    }
 }
 
-// The lines before the start.
-fn draft_all(desk: &mut Desk, heap: Global, draft: &mut FileDraft) -> anyhow::Result<Then> {
+// The lines before the start. Answers whether the file asks for it.
+fn draft_all(desk: &mut Desk, heap: Global, draft: &mut FileDraft) -> anyhow::Result<bool> {
+    // Nothing bounds how many lines a file has.
     for _ in 0..u64::MAX {
-        if !desk.next()? {
-            return Ok(Then::End);
-        }
-        match desk.draft_line(heap, draft) {
+        let Some(line) = desk.next()? else {
+            break;
+        };
+        match read::draft_line(draft, heap, line) {
             Ok(Drafted::Posted) => {}
-            Ok(Drafted::Start) => return Ok(Then::GoOn),
+            Ok(Drafted::Start) => return Ok(true),
             Err(error) => desk.stop_draft(error)?,
         }
     }
-    Ok(Then::End)
+    Ok(false)
 }
 
-// The lines from the start up to publishing.
+// The lines from the start up to publishing. Answers whether the file asks for that.
 fn plan_all(
     desk: &mut Desk,
     plan: &mut FilePlan<'_>,
     workspace: &mut [u64],
-) -> anyhow::Result<Then> {
+) -> anyhow::Result<bool> {
+    // Nothing bounds how many lines a file has.
     for _ in 0..u64::MAX {
-        if !desk.next()? {
-            return Ok(Then::End);
-        }
-        match desk.plan_line(plan, workspace) {
+        let Some(line) = desk.next()? else {
+            break;
+        };
+        match read::plan_line(plan, line, workspace) {
             Ok(told) => {
                 desk.tell(told)?;
                 if let Told::Publish = told {
-                    return Ok(Then::GoOn);
+                    return Ok(true);
                 }
             }
             Err(fault) => desk.stop(fault)?,
         }
     }
-    Ok(Then::End)
+    Ok(false)
 }
 
 // Every cell and every rule of the roster.
 fn print_roster(desk: &mut Desk, roster: &FileRoster<'_>, workspace: &mut [u64]) -> io::Result<()> {
-    for cell in 0..192usize {
-        if let Some(line) = roster.cell(cell) {
-            let text = CellText(line);
-            writeln!(desk.output, "{text}")?;
-        }
+    for line in (0..192).map_while(|cell| roster.cell(cell)) {
+        let text = CellText(line);
+        writeln!(desk.output, "{text}")?;
     }
-    for rule in 0..72usize {
-        if let Some(line) = roster.rule(rule, workspace) {
-            let text = RuleText(line);
-            writeln!(desk.output, "{text}")?;
-        }
+    for line in (0..72).map_while(|rule| roster.rule(rule, workspace)) {
+        let text = RuleText(line);
+        writeln!(desk.output, "{text}")?;
     }
     Ok(())
 }
 
 // What comes after the roster is out of order, if anything does.
 fn finish(desk: &mut Desk) -> anyhow::Result<()> {
-    if !desk.next()? {
+    let Some(line) = desk.next()? else {
         return Ok(());
-    }
-    let line = desk.line.line(desk.ended);
+    };
     let mut bytes = FrameBytes::new();
-    match at_line(desk.number, read_line(Phase::Published, line, &mut bytes)) {
+    match read_line(Phase::Published, line, &mut bytes) {
         Ok(_) => Ok(()),
         Err(fault) => desk.stop(fault),
     }
@@ -204,24 +178,24 @@ fn finish(desk: &mut Desk) -> anyhow::Result<()> {
 // The file from its first line on.
 fn serve(rt: &HostRuntime, desk: &mut Desk) -> anyhow::Result<()> {
     let heap = rt.alloc();
-    if !desk.next()? {
+    let Some(line) = desk.next()? else {
         return Ok(());
-    }
-    let mut draft = match desk.open(heap) {
+    };
+    let mut draft = match read::open(heap, line) {
         Ok(draft) => draft,
         Err(fault) => return desk.stop(fault),
     };
-    let Then::GoOn = draft_all(desk, heap, &mut draft)? else {
+    if !draft_all(desk, heap, &mut draft)? {
         return Ok(());
-    };
+    }
     let mut room = KeptTable::blank();
     let mut workspace = vec![in heap; 0u64; families::WORKSPACE]?;
     let workspace = workspace.as_mut_slice();
     let (mut plan, start) = FilePlan::start(draft, &mut room, workspace);
     desk.tell(Told::Started(start))?;
-    let Then::GoOn = plan_all(desk, &mut plan, workspace)? else {
+    if !plan_all(desk, &mut plan, workspace)? {
         return Ok(());
-    };
+    }
     let roster = plan.publish();
     print_roster(desk, &roster, workspace)?;
     finish(desk)
