@@ -64,7 +64,10 @@ fn store(codes: &mut [u64], place: usize, row: &[u64; 16])
     ensures before { (k : ℕ) → k < 16 * place → slice_index codes.new k ≡ slice_index codes.old k }
     ensures after { (k : ℕ) → 16 * place + 16 ≤ k → slice_index codes.new k ≡ slice_index codes.old k }
 {
-    codes[16 * place..16 * place + 16].copy_from_slice(row);
+    // A loop: `copy_from_slice` reads the row back from memory, and short sweeps took twice the time.
+    for (q, code) in row.iter().enumerate() {
+        codes[16 * place + q] = *code;
+    }
 }
 
 // Sweeps forward: code 16 * i + q measures the sequences over the i masks before a place that bring the automaton to state q.
