@@ -1,4 +1,5 @@
-// What crosses over, as plain numbers, and what is made of it.
+// What crosses over, as plain numbers, and what is made of it. A number stands for a kind only where
+// it comes from C.
 use automata::{Among, Map, Table};
 use counting::Counting;
 use families::Pair;
@@ -17,66 +18,43 @@ pub struct RuleFields {
     pub tally: u64,
 }
 
-// The masks of all cells and of all tallies.
-#[repr(C)]
-#[derive(Clone, Copy)]
-pub struct Masks {
-    pub cells: [u16; 192],
-    pub tallies: [u64; 72],
-}
-
 // The rules of a plan: at first those of the set, then those of the word read by classes, then those of the table.
 pub type Families<'a> = Pair<Pair<Counting<Among>, Counting<Map<Word>>>, Counting<Table<'a>>>;
 
 pub fn rule_of(heap: Global, fields: &RuleFields) -> Option<Rule> {
     let len = (fields.len as usize).min(64);
-    let Ok(row) = Row::new(heap, &fields.row[0..len], 192) else {
-        return None;
-    };
-    let Ok(sense) = Sense::try_from(fields.sense) else {
-        return None;
-    };
-    match Rule::new(row, sense, fields.tally) {
-        Ok(rule) => Some(rule),
-        Err(_) => None,
-    }
+    let row = Row::new(heap, &fields.row[0..len], 192).ok()?;
+    let sense = Sense::try_from(fields.sense).ok()?;
+    Rule::new(row, sense, fields.tally).ok()
 }
 
-// Posts the rules of one family, and tells whether all went in.
-fn post_all<C>(heap: Global, family: &mut Counting<C>, number: u8, rules: &[RuleFields]) -> bool {
+// A family with the rules of its number.
+fn family_of<C: Drop>(
+    heap: Global,
+    automaton: C,
+    number: u8,
+    rules: &[RuleFields],
+) -> Option<Counting<C>> {
+    let mut family = Counting::new(heap, automaton);
     for fields in rules {
         if fields.family == number {
-            let Some(rule) = rule_of(heap, fields) else {
-                return false;
-            };
-            if family.post(rule).is_err() {
-                return false;
-            }
+            family.post(rule_of(heap, fields)?).ok()?;
         }
     }
-    true
+    Some(family)
 }
 
 // A word read by classes: sixteen classes, and then the word's duties.
 pub fn mapped_word(fields: &[u8]) -> Option<Map<Word>> {
-    let Some((classes, duties)) = fields.split_first_chunk::<16>() else {
-        return None;
-    };
-    match Word::new(duties) {
-        Ok(word) => Some(Map::new(*classes, word)),
-        Err(_) => None,
-    }
+    let (classes, duties) = fields.split_first_chunk::<16>()?;
+    let word = Word::new(duties).ok()?;
+    Some(Map::new(*classes, word))
 }
 
 // A table: its number of states, and then its bytes.
 pub fn table<'a>(fields: &'a [u8]) -> Option<Table<'a>> {
-    let Some((states, steps)) = fields.split_first() else {
-        return None;
-    };
-    match Table::new(*states, steps) {
-        Ok(table) => Some(table),
-        Err(_) => None,
-    }
+    let (states, steps) = fields.split_first()?;
+    Table::new(*states, steps).ok()
 }
 
 // The families of a plan, with their rules.
@@ -87,21 +65,8 @@ pub fn families_of<'a>(
     steps: &'a [u8],
     rules: &[RuleFields],
 ) -> Option<Families<'a>> {
-    let Some(word) = mapped_word(word) else {
-        return None;
-    };
-    let Some(steps) = table(steps) else {
-        return None;
-    };
-    let mut first = Counting::new(heap, Among::new(set));
-    let mut second = Counting::new(heap, word);
-    let mut third = Counting::new(heap, steps);
-    if post_all(heap, &mut first, 0, rules)
-        && post_all(heap, &mut second, 1, rules)
-        && post_all(heap, &mut third, 2, rules)
-    {
-        Some(Pair::new(Pair::new(first, second), third))
-    } else {
-        None
-    }
+    let first = family_of(heap, Among::new(set), 0, rules)?;
+    let second = family_of(heap, mapped_word(word)?, 1, rules)?;
+    let third = family_of(heap, table(steps)?, 2, rules)?;
+    Some(Pair::new(Pair::new(first, second), third))
 }

@@ -1,7 +1,6 @@
 // Many runs of one rule.
 use crate::fields::{RuleFields, mapped_word, rule_of, table};
 use automata::{Among, CounterAutomaton};
-use rules::Rule;
 use std::alloc::Global;
 
 // Masks to run a rule on, and how many values that took.
@@ -13,21 +12,28 @@ pub struct Case {
     pub removed: u32,
 }
 
-// Runs the rule once on each case, in place.
-fn run_cases<C: CounterAutomaton>(
-    automaton: &C,
-    rule: &Rule,
+// Runs the rule once on each case, in place, where there are an automaton and a rule: whether there are.
+fn run_cases<C: CounterAutomaton + Drop>(
+    heap: Global,
+    automaton: Option<C>,
+    fields: &RuleFields,
     cases: &mut [Case],
     workspace: &mut [u64],
-) {
+) -> bool {
+    let (Some(automaton), Some(rule)) = (automaton, rule_of(heap, fields)) else {
+        return false;
+    };
     for case in cases.iter_mut() {
-        let mut tally = case.tally;
-        case.removed = match runs::run(automaton, rule, &mut case.cells, &mut tally, workspace) {
-            Ok(removed) => removed,
-            Err(_) => 0,
-        };
-        case.tally = tally;
+        let ran = runs::run(
+            &automaton,
+            &rule,
+            &mut case.cells,
+            &mut case.tally,
+            workspace,
+        );
+        case.removed = ran.unwrap_or(0);
     }
+    true
 }
 
 #[unsafe(no_mangle)]
@@ -38,11 +44,7 @@ pub extern "C" fn kernel_run_set(
     cases: &mut [Case],
     workspace: &mut [u64],
 ) -> bool {
-    let Some(rule) = rule_of(heap, rule) else {
-        return false;
-    };
-    run_cases(&Among::new(set), &rule, cases, workspace);
-    true
+    run_cases(heap, Some(Among::new(set)), rule, cases, workspace)
 }
 
 #[unsafe(no_mangle)]
@@ -53,14 +55,7 @@ pub extern "C" fn kernel_run_word(
     cases: &mut [Case],
     workspace: &mut [u64],
 ) -> bool {
-    let Some(rule) = rule_of(heap, rule) else {
-        return false;
-    };
-    let Some(word) = mapped_word(word) else {
-        return false;
-    };
-    run_cases(&word, &rule, cases, workspace);
-    true
+    run_cases(heap, mapped_word(word), rule, cases, workspace)
 }
 
 #[unsafe(no_mangle)]
@@ -71,12 +66,5 @@ pub extern "C" fn kernel_run_table(
     cases: &mut [Case],
     workspace: &mut [u64],
 ) -> bool {
-    let Some(rule) = rule_of(heap, rule) else {
-        return false;
-    };
-    let Some(steps) = table(steps) else {
-        return false;
-    };
-    run_cases(&steps, &rule, cases, workspace);
-    true
+    run_cases(heap, table(steps), rule, cases, workspace)
 }

@@ -3,60 +3,74 @@ use crate::fields::{mapped_word, table};
 use automata::{Among, CounterAutomaton};
 use measures::{Greatest, Least, Measure, Totals};
 
-// Sweeps forward over each row of so many masks, and answers a number that depends on every sweep.
-fn forward_rows<M: Measure, C: CounterAutomaton>(
+// The last code of a forward sweep at state 0; none where the codes are too few.
+fn forward<M: Measure, C: CounterAutomaton>(
     automaton: &C,
+    masks: &[u16],
+    codes: &mut [u64],
+) -> Option<u64> {
+    sweeps::forward::<M, C>(automaton, masks, codes).ok()?;
+    codes.get(16 * masks.len()).copied()
+}
+
+// The first code of a backward sweep; none where the codes are too few.
+fn backward<M: Measure, C: CounterAutomaton>(
+    automaton: &C,
+    masks: &[u16],
+    codes: &mut [u64],
+) -> Option<u64> {
+    sweeps::backward::<M, C>(automaton, masks, codes).ok()?;
+    codes.first().copied()
+}
+
+// Sweeps over each row of so many masks, and answers a number that depends on every sweep.
+fn sum_rows<S: FnMut(&[u16], &mut [u64]) -> Option<u64>>(
     len: usize,
     rows: &[u16],
     codes: &mut [u64],
-) -> u64 {
+    mut sweep: S,
+) -> u64
+    requires { (s : _) (masks : _) (codes : _) → S.pre s masks codes }
+{
     let mut sum = 0u64;
     if len == 0 {
         return 0;
     }
     for masks in rows.chunks_exact(len) {
-        if sweeps::forward::<M, C>(automaton, masks, codes).is_ok() {
-            let end = 16 * masks.len();
-            sum = sum.rotate_left(1) ^ codes.get(end).copied().unwrap_or(0);
+        if let Some(code) = sweep(masks, codes) {
+            sum = sum.rotate_left(1) ^ code;
         }
     }
     sum
 }
 
-// Sweeps backward over each row of so many masks, and answers a number that depends on every sweep.
-fn backward_rows<M: Measure, C: CounterAutomaton>(
-    automaton: &C,
-    len: usize,
-    rows: &[u16],
-    codes: &mut [u64],
-) -> u64 {
-    let mut sum = 0u64;
-    if len == 0 {
-        return 0;
-    }
-    for masks in rows.chunks_exact(len) {
-        if sweeps::backward::<M, C>(automaton, masks, codes).is_ok() {
-            sum = sum.rotate_left(1) ^ codes.get(0).copied().unwrap_or(0);
-        }
-    }
-    sum
-}
-
-// The sweep of a number: forward with the least, the greatest and the totals, and then backward.
+// The sweep of a number, which comes from C: forward with the least, the greatest and the totals, and then backward.
 fn sweep_rows<C: CounterAutomaton>(
     automaton: &C,
-    sweep: u32,
+    number: u32,
     len: usize,
     rows: &[u16],
     codes: &mut [u64],
 ) -> u64 {
-    match sweep {
-        0 => forward_rows::<Least, C>(automaton, len, rows, codes),
-        1 => forward_rows::<Greatest, C>(automaton, len, rows, codes),
-        2 => forward_rows::<Totals, C>(automaton, len, rows, codes),
-        3 => backward_rows::<Least, C>(automaton, len, rows, codes),
-        4 => backward_rows::<Greatest, C>(automaton, len, rows, codes),
-        5 => backward_rows::<Totals, C>(automaton, len, rows, codes),
+    match number {
+        0 => sum_rows(len, rows, codes, |masks, codes| {
+            forward::<Least, C>(automaton, masks, codes)
+        }),
+        1 => sum_rows(len, rows, codes, |masks, codes| {
+            forward::<Greatest, C>(automaton, masks, codes)
+        }),
+        2 => sum_rows(len, rows, codes, |masks, codes| {
+            forward::<Totals, C>(automaton, masks, codes)
+        }),
+        3 => sum_rows(len, rows, codes, |masks, codes| {
+            backward::<Least, C>(automaton, masks, codes)
+        }),
+        4 => sum_rows(len, rows, codes, |masks, codes| {
+            backward::<Greatest, C>(automaton, masks, codes)
+        }),
+        5 => sum_rows(len, rows, codes, |masks, codes| {
+            backward::<Totals, C>(automaton, masks, codes)
+        }),
         _ => 0,
     }
 }
@@ -80,10 +94,7 @@ pub extern "C" fn kernel_sweep_word(
     rows: &[u16],
     codes: &mut [u64],
 ) -> u64 {
-    match mapped_word(word) {
-        Some(word) => sweep_rows(&word, sweep, len, rows, codes),
-        None => 0,
-    }
+    mapped_word(word).map_or(0, |word| sweep_rows(&word, sweep, len, rows, codes))
 }
 
 #[unsafe(no_mangle)]
@@ -94,8 +105,5 @@ pub extern "C" fn kernel_sweep_table(
     rows: &[u16],
     codes: &mut [u64],
 ) -> u64 {
-    match table(steps) {
-        Some(steps) => sweep_rows(&steps, sweep, len, rows, codes),
-        None => 0,
-    }
+    table(steps).map_or(0, |table| sweep_rows(&table, sweep, len, rows, codes))
 }

@@ -1,8 +1,8 @@
 // Settling many times with one family, and a plan's whole history of calls.
-use crate::fields::{Families, Masks, RuleFields, families_of};
+use crate::fields::{Families, RuleFields, families_of};
 use planning::plan::{Draft, Plan, Start, Try};
 use refusals::PlanFault;
-use settling::{Failure, Settled, Spot, Work};
+use settling::{Failure, Settled, Snapshot, Spot, Work};
 use std::alloc::Global;
 
 // How a call went: 0 settled, 1 failed at a rule, 2 failed as its own, 3 a level was opened or
@@ -27,6 +27,7 @@ pub struct CallFields {
     pub mask: u64,
 }
 
+// An outcome with no work.
 fn plain_outcome(kind: u32, rule: u32) -> Outcome {
     Outcome {
         kind,
@@ -37,47 +38,81 @@ fn plain_outcome(kind: u32, rule: u32) -> Outcome {
     }
 }
 
-fn work_outcome(work: Work) -> Outcome {
-    Outcome {
-        kind: 0,
-        rule: 0,
-        cell: 0,
-        runs: work.runs,
-        removed: work.removed,
+impl From<Work> for Outcome {
+    fn from(work: Work) -> Outcome {
+        Outcome {
+            kind: 0,
+            rule: 0,
+            cell: 0,
+            runs: work.runs,
+            removed: work.removed,
+        }
     }
 }
 
-fn failure_outcome(failure: Failure) -> Outcome {
-    let cell = match failure.spot {
-        Spot::Cell(cell) => cell.min(191) as u32,
-        Spot::Tally => 192,
-    };
-    Outcome {
-        kind: 1,
-        rule: failure.rule.min(72) as u32,
-        cell,
-        runs: failure.work.runs,
-        removed: failure.work.removed,
+impl From<Failure> for Outcome {
+    fn from(failure: Failure) -> Outcome {
+        let cell = match failure.spot {
+            Spot::Cell(cell) => cell.min(191) as u32,
+            Spot::Tally => 192,
+        };
+        Outcome {
+            kind: 1,
+            rule: failure.rule.min(72) as u32,
+            cell,
+            runs: failure.work.runs,
+            removed: failure.work.removed,
+        }
     }
 }
 
-fn refused_outcome(fault: PlanFault) -> Outcome {
-    plain_outcome(4, u32::from(fault.report().number))
-}
-
-fn try_outcome(tried: Result<Try, PlanFault>) -> Outcome {
-    match tried {
-        Ok(Try::Settled(work)) => work_outcome(work),
-        Ok(Try::Failed(failure)) => failure_outcome(failure),
-        Ok(Try::Own) => plain_outcome(2, 0),
-        Err(fault) => refused_outcome(fault),
+impl From<PlanFault> for Outcome {
+    fn from(fault: PlanFault) -> Outcome {
+        plain_outcome(4, u32::from(fault.report().number))
     }
 }
 
-fn level_outcome(level: Result<usize, PlanFault>) -> Outcome {
-    match level {
-        Ok(level) => plain_outcome(3, level.min(16) as u32),
-        Err(fault) => refused_outcome(fault),
+impl From<Start> for Outcome {
+    fn from(start: Start) -> Outcome {
+        match start {
+            Start::Settled(work) => Outcome::from(work),
+            Start::Void(failure) => Outcome::from(failure),
+            Start::Short => Outcome::from(PlanFault::Workspace),
+        }
+    }
+}
+
+impl From<Try> for Outcome {
+    fn from(tried: Try) -> Outcome {
+        match tried {
+            Try::Settled(work) => Outcome::from(work),
+            Try::Failed(failure) => Outcome::from(failure),
+            Try::Own => plain_outcome(2, 0),
+        }
+    }
+}
+
+// How many levels are open.
+impl From<usize> for Outcome {
+    fn from(level: usize) -> Outcome {
+        plain_outcome(3, level.min(16) as u32)
+    }
+}
+
+// What came of a call, or why it did not go through.
+fn outcome_of<T, E>(answer: Result<T, E>) -> Outcome
+where
+    Outcome: From<T> + From<E>,
+{
+    match answer {
+        Ok(told) => Outcome::from(told),
+        Err(fault) => Outcome::from(fault),
+    }
+}
+
+impl From<Settled> for Outcome {
+    fn from(settled: Settled) -> Outcome {
+        outcome_of(settled)
     }
 }
 
@@ -89,7 +124,7 @@ pub extern "C" fn kernel_settle(
     word: &[u8],
     steps: &[u8],
     rules: &[RuleFields],
-    cases: &mut [Masks],
+    cases: &mut [Snapshot],
     outcomes: &mut [Outcome],
     workspace: &mut [u64],
 ) -> bool {
@@ -97,11 +132,7 @@ pub extern "C" fn kernel_settle(
         return false;
     };
     for (case, outcome) in cases.iter_mut().zip(outcomes.iter_mut()) {
-        *outcome = match settling::settle(&family, &mut case.cells, &mut case.tallies, workspace) {
-            Ok(Settled::Well(work)) => work_outcome(work),
-            Ok(Settled::Failed(failure)) => failure_outcome(failure),
-            Err(fault) => refused_outcome(fault),
-        };
+        *outcome = outcome_of(settling::settle(&family, case, workspace));
     }
     true
 }
@@ -109,8 +140,8 @@ pub extern "C" fn kernel_settle(
 // A draft with these masks; every duty is open where a mask is empty.
 fn draft_of(cells: &[u16; 192]) -> Draft {
     let mut draft = Draft::new();
-    for cell in 0..192usize {
-        let _ = draft.set_range(cell, 1, cells[cell]);
+    for (cell, mask) in cells.iter().enumerate() {
+        let _ = draft.set_range(cell, 1, *mask);
     }
     draft
 }
@@ -118,20 +149,20 @@ fn draft_of(cells: &[u16; 192]) -> Draft {
 fn make(plan: &mut Plan<Families<'_>>, call: CallFields, workspace: &mut [u64]) -> Outcome {
     let target = call.target as usize;
     match call.kind {
-        0 => try_outcome(plan.decide(target, (call.mask & 0xffff) as u16, workspace)),
-        1 => try_outcome(plan.bound(target, call.mask, workspace)),
-        2 => level_outcome(plan.mark()),
-        _ => level_outcome(plan.back()),
+        0 => outcome_of(plan.decide(target, (call.mask & 0xffff) as u16, workspace)),
+        1 => outcome_of(plan.bound(target, call.mask, workspace)),
+        2 => outcome_of(plan.mark()),
+        _ => outcome_of(plan.back()),
     }
 }
 
 // What a plan holds.
-fn copy_out(plan: &Plan<Families<'_>>, end: &mut Masks) {
-    for cell in 0..192usize {
-        end.cells[cell] = plan.cell(cell).unwrap_or(0);
+fn copy_out(plan: &Plan<Families<'_>>, end: &mut Snapshot) {
+    for (cell, mask) in end.cells.iter_mut().enumerate() {
+        *mask = plan.cell(cell).unwrap_or(0);
     }
-    for rule in 0..72usize {
-        end.tallies[rule] = plan.tally(rule).unwrap_or(0);
+    for (rule, tally) in end.tallies.iter_mut().enumerate() {
+        *tally = plan.tally(rule).unwrap_or(0);
     }
 }
 
@@ -147,7 +178,7 @@ pub extern "C" fn kernel_tries(
     cells: &[u16; 192],
     calls: &[CallFields],
     outcomes: &mut [Outcome],
-    end: &mut Masks,
+    end: &mut Snapshot,
     workspace: &mut [u64],
 ) -> bool {
     let Some(family) = families_of(heap, set, word, steps, rules) else {
@@ -157,11 +188,7 @@ pub extern "C" fn kernel_tries(
         return false;
     };
     let (mut plan, start) = draft_of(cells).start(family, workspace);
-    *first = match start {
-        Start::Settled(work) => work_outcome(work),
-        Start::Void(failure) => failure_outcome(failure),
-        Start::Short => plain_outcome(4, 14),
-    };
+    *first = Outcome::from(start);
     for (call, outcome) in calls.iter().zip(rest.iter_mut()) {
         *outcome = make(&mut plan, *call, workspace);
     }
