@@ -1,4 +1,5 @@
-// Answers of either implementation, in a form in which they can be compared and printed.
+// Answers of either implementation, in a form in which they can be compared and printed. They are types
+// of their own, so that the plain implementation uses none of the kernel's.
 use std::fmt;
 
 // Which part found a fault.
@@ -73,6 +74,21 @@ impl fmt::Display for Refusal {
         let layer = self.layer;
         let place = self.place;
         write!(f, "refused {number} {layer} {place}")
+    }
+}
+
+// That nothing is wrong.
+pub const FINE: Answer = Answer::Holds(true);
+
+impl From<bool> for Answer {
+    fn from(holds: bool) -> Answer {
+        Answer::Holds(holds)
+    }
+}
+
+impl From<Refusal> for Answer {
+    fn from(refusal: Refusal) -> Answer {
+        Answer::Refused(refusal)
     }
 }
 

@@ -8,10 +8,11 @@ use std::alloc::{AllocError, Global};
 // As much workspace as is needed, and a little more.
 const ROOM: usize = 4200;
 
-// The allocator, the workspace to lend, what it held before a call, and the counts.
+// The allocator, the dice of the present case, the workspace to lend, what it held before a call, and the counts.
 #[derive(Drop)]
 pub struct Bench {
     pub heap: Global,
+    pub dice: Dice,
     pub workspace: Vec<u64>,
     before: Vec<u64>,
     pub counts: Counts,
@@ -21,16 +22,17 @@ impl Bench {
     pub fn new(heap: Global) -> Result<Bench, AllocError> {
         Ok(Bench {
             heap,
+            dice: Dice::new(0, 0),
             workspace: vec![in heap; 0u64; ROOM]?,
             before: Vec::new(heap),
-            counts: Counts::new(),
+            counts: Counts::default(),
         })
     }
 
     // Fills the workspace with noise, which must not matter.
-    pub fn make_noise(&mut self, dice: &mut Dice) {
+    pub fn make_noise(&mut self) {
         for number in self.workspace.iter_mut() {
-            *number = dice.roll();
+            *number = self.dice.roll();
         }
     }
 

@@ -2,7 +2,7 @@
 use crate::answer::Answer;
 use crate::problem::Sense;
 
-#[derive(Clone, Copy)]
+#[derive(Clone, Copy, Default)]
 pub struct Counts {
     pub plans: u64,
     pub void_starts: u64,
@@ -38,37 +38,6 @@ pub fn more(count: &mut u64) {
 }
 
 impl Counts {
-    pub fn new() -> Counts {
-        Counts {
-            plans: 0,
-            void_starts: 0,
-            short_starts: 0,
-            accepted: 0,
-            failed_own: 0,
-            failed: 0,
-            failed_later: 0,
-            removed: 0,
-            marks: 0,
-            backs: 0,
-            questions: 0,
-            refusals: [0; 28],
-            bare_runs: 0,
-            again: 0,
-            largest: 0,
-            fillings: 0,
-            runs: [0; 3],
-            duties_taken: 0,
-            counts_taken: 0,
-            figures: 0,
-            posts: 0,
-            files: 0,
-            lines: 0,
-            whole_files: 0,
-            rosters: 0,
-            fixed: 0,
-        }
-    }
-
     // How a start went.
     pub fn note_start(&mut self, answer: Answer) {
         more(&mut self.plans);
@@ -108,13 +77,10 @@ impl Counts {
 
     // A run of a rule alone, and how many duties and counts it took.
     pub fn note_run(&mut self, sense: Sense, duties: u32, counts: u32) {
-        let index = match sense {
-            Sense::AtMost => 0,
-            Sense::AtLeast => 1,
-            Sense::Exactly => 2usize,
-        };
-        if let Some(count) = self.runs.get_mut(index) {
-            more(count);
+        match sense {
+            Sense::AtMost => more(&mut self.runs[0]),
+            Sense::AtLeast => more(&mut self.runs[1]),
+            Sense::Exactly => more(&mut self.runs[2]),
         }
         self.duties_taken = self.duties_taken.saturating_add(u64::from(duties));
         self.counts_taken = self.counts_taken.saturating_add(u64::from(counts));

@@ -41,8 +41,8 @@ impl Dice {
     // A set of numbers below a limit, into which each comes with even chance.
     pub fn set(&mut self, limit: u64) -> u64 {
         let mut set = 0;
-        for member in 0..64u64 {
-            if member < limit && self.one_in(2) {
+        for member in 0..limit.min(64) {
+            if self.one_in(2) {
                 set |= 1 << member;
             }
         }

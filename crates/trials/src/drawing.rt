@@ -1,6 +1,7 @@
 // Drawing problems and calls.
 use crate::dice::Dice;
 use crate::plain::counters::{Reading, counter_of};
+use crate::plain::fillings::sequence_of;
 use crate::plain::rounds::Masks;
 use crate::problem::{CELLS, Call, Kind, Posted, Problem, Request, Sense, WORKSPACE};
 use std::alloc::{AllocError, Global};
@@ -59,15 +60,13 @@ fn draw_sense(dice: &mut Dice) -> Sense {
 
 // A row of so many cells on end, which may go past the last and on from the first.
 fn draw_long_row(heap: Global, dice: &mut Dice, cells: u64) -> Result<Vec<u8>, AllocError> {
-    let mut row = Vec::new(heap);
     let first = dice.below(cells);
     let whole = dice.one_in(2);
     let length = if whole { cells } else { dice.between(1, cells) };
-    for i in 0..length {
-        let cell = first.saturating_add(i).checked_rem(cells).unwrap_or(0);
-        row.push((cell % 192) as u8)?;
-    }
-    Ok(row)
+    (0..length)
+        .map(|i| first.saturating_add(i).checked_rem(cells).unwrap_or(0))
+        .map(|cell| (cell % 192) as u8)
+        .collect(heap)
 }
 
 // A row of different cells in any order: one at the least.
@@ -104,10 +103,7 @@ fn total_of(
     cells: &[u8],
     filling: &[u8; CELLS],
 ) -> Result<u64, AllocError> {
-    let mut sequence = Vec::new(heap);
-    for cell in cells {
-        sequence.push(filling.get(usize::from(*cell)).copied().unwrap_or(0))?;
-    }
+    let sequence = sequence_of(heap, cells, filling)?;
     let mut reading = Reading::new(heap);
     reading.read(counter_of(problem, kind), sequence.as_slice())?;
     Ok(reading.total)

@@ -3,7 +3,7 @@ use crate::answer::{Answer, Failure, Layer, Refusal, Work, refused};
 use crate::bench::Bench;
 use crate::counts::more;
 use crate::kernel;
-use crate::kernel::{Rules, refusal_of};
+use crate::kernel::{Rules, judged, taken};
 use crate::plain::reading::roster_text;
 use crate::problem::{Call, Kind, Posted, Problem, Request, Sense, WORKSPACE};
 use crate::stop::{Stop, What, agree};
@@ -12,7 +12,6 @@ use counting::Counting;
 use families::Pair;
 use planning::plan::Plan;
 use planning::plan::drafts::check_workspace;
-use refusals::PostError;
 use rules::{Row, Rule};
 use std::alloc::Global;
 
@@ -65,10 +64,7 @@ fn expect(bench: &mut Bench, number: usize, kernel: Answer, known: Answer) -> Re
 
 // A rule over the first cells, so many.
 fn posted(heap: Global, number: usize, sense: Sense, tally: u64) -> Result<Posted, Stop> {
-    let mut cells = Vec::new(heap);
-    for cell in 0..number.min(192) {
-        cells.push(cell as u8)?;
-    }
+    let cells = (0..number.min(192)).map(|cell| cell as u8).collect(heap)?;
     Ok(Posted {
         kind: Kind::Among,
         sense,
@@ -148,21 +144,14 @@ fn try_workspace(bench: &mut Bench) -> Result<(), Stop> {
     let enough = [0; WORKSPACE];
     let fits = check_workspace(&enough).is_ok();
     expect(bench, 10, Answer::Holds(fits), Answer::Holds(true))?;
-    let short = match check_workspace(&enough[0..WORKSPACE - 1]) {
-        Ok(()) => Answer::Holds(true),
-        Err(fault) => Answer::Refused(refusal_of(fault.report())),
-    };
+    let short = judged(check_workspace(&enough[0..WORKSPACE - 1]));
     expect(bench, 11, short, refused(14))
 }
 
 // The answer to a row of so many cells.
 fn row_answer(heap: Global, number: usize) -> Result<Answer, Stop> {
     let rule = posted(heap, number, Sense::AtMost, 1)?;
-    match Row::new(heap, rule.cells.as_slice(), 192) {
-        Ok(_) => Ok(Answer::Holds(true)),
-        Err(PostError::Fault(fault)) => Ok(Answer::Refused(refusal_of(fault.report()))),
-        Err(PostError::Memory) => Err(Stop::Memory),
-    }
+    taken(Row::new(heap, rule.cells.as_slice(), 192))
 }
 
 fn post_refusal(number: u8, place: usize) -> Answer {
@@ -200,21 +189,14 @@ fn one_rule(heap: Global) -> Result<Rule, Stop> {
 fn try_families(bench: &mut Bench) -> Result<(), Stop> {
     let heap = bench.heap;
     let mut family = full(heap)?;
-    let answer = match family.post(one_rule(heap)?) {
-        Ok(()) => Answer::Holds(true),
-        Err(PostError::Fault(fault)) => Answer::Refused(refusal_of(fault.report())),
-        Err(PostError::Memory) => return Err(Stop::Memory),
-    };
+    let answer = taken(family.post(one_rule(heap)?))?;
     expect(bench, 15, answer, post_refusal(24, 0))?;
     let pair = Pair::new(family, full(heap)?);
     let third = full(heap)?;
     let fits = families::check_pair(&pair, &third).is_ok();
     expect(bench, 16, Answer::Holds(fits), Answer::Holds(true))?;
     let four = Pair::new(third, full(heap)?);
-    let answer = match families::check_pair(&pair, &four) {
-        Ok(()) => Answer::Holds(true),
-        Err(fault) => Answer::Refused(refusal_of(fault.report())),
-    };
+    let answer = judged(families::check_pair(&pair, &four));
     expect(bench, 17, answer, post_refusal(15, 0))
 }
 

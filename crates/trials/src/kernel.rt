@@ -1,11 +1,12 @@
 // The kernel: its families, plans and answers, from and to the plain data.
-use crate::answer::{Answer, Failure, Figures, Layer, Refusal, Work, refused};
+use crate::answer::{Answer, FINE, Failure, Figures, Layer, Refusal, Work, refused};
 use crate::problem::{Call, Kind, Posted, Problem, Request, Sense};
 use crate::stop::Stop;
 use automata::{Among, Map, Table};
 use counting::Counting;
 use families::Pair;
 use planning::plan::{Draft, Plan, Start, Try};
+use refusals::{LineFault, PlanFault, PostFault, Report, Stopped};
 use rules::{Row, Rule};
 use settling::Spot;
 use std::alloc::Global;
@@ -14,93 +15,186 @@ use words::Word;
 // The rules of a problem: those that count duties of the set, then the word's, then the table's.
 pub type Rules<'a> = Pair<Pair<Counting<Among>, Counting<Map<Word>>>, Counting<Table<'a>>>;
 
-pub fn refusal_of(report: refusals::Report) -> Refusal {
-    let layer = match report.layer {
-        refusals::Layer::Line => Layer::Line,
-        refusals::Layer::Frame => Layer::Frame,
-        refusals::Layer::Post => Layer::Post,
-        refusals::Layer::Plan => Layer::Plan,
-    };
-    Refusal {
-        number: report.number,
-        layer,
-        place: report.place,
+impl From<refusals::Layer> for Layer {
+    fn from(layer: refusals::Layer) -> Layer {
+        match layer {
+            refusals::Layer::Line => Layer::Line,
+            refusals::Layer::Frame => Layer::Frame,
+            refusals::Layer::Post => Layer::Post,
+            refusals::Layer::Plan => Layer::Plan,
+        }
     }
 }
 
-pub fn figures_of(figures: Option<measures::Figures>) -> Option<Figures> {
-    match figures {
-        Some(figures) => Some(Figures {
+impl From<Report> for Refusal {
+    fn from(report: Report) -> Refusal {
+        Refusal {
+            number: report.number,
+            layer: Layer::from(report.layer),
+            place: report.place,
+        }
+    }
+}
+
+impl From<PostFault> for Refusal {
+    fn from(fault: PostFault) -> Refusal {
+        Refusal::from(fault.report())
+    }
+}
+
+impl From<measures::Figures> for Figures {
+    fn from(figures: measures::Figures) -> Figures {
+        Figures {
             least: figures.least,
             greatest: figures.greatest,
             totals: figures.totals,
-        }),
-        None => None,
+        }
     }
 }
 
-fn work_of(work: settling::Work) -> Work {
-    Work {
-        runs: work.runs,
-        removed: work.removed,
+impl From<settling::Work> for Work {
+    fn from(work: settling::Work) -> Work {
+        Work {
+            runs: work.runs,
+            removed: work.removed,
+        }
     }
 }
 
-fn failure_of(failure: settling::Failure) -> Failure {
-    let cell = match failure.spot {
-        Spot::Cell(cell) => Some(cell),
-        Spot::Tally => None,
-    };
-    Failure {
-        rule: failure.rule,
-        cell,
-        work: work_of(failure.work),
+impl From<settling::Failure> for Failure {
+    fn from(failure: settling::Failure) -> Failure {
+        let cell = match failure.spot {
+            Spot::Cell(cell) => Some(cell),
+            Spot::Tally => None,
+        };
+        Failure {
+            rule: failure.rule,
+            cell,
+            work: Work::from(failure.work),
+        }
     }
 }
 
-fn start_answer(start: Start) -> Answer {
-    match start {
-        Start::Settled(work) => Answer::Settled(work_of(work)),
-        Start::Void(failure) => Answer::Failed(failure_of(failure)),
-        Start::Short => refused(14),
+impl From<settling::Work> for Answer {
+    fn from(work: settling::Work) -> Answer {
+        Answer::Settled(Work::from(work))
     }
 }
 
-fn answer_of(answer: replay::Answer) -> Answer {
-    match answer {
-        replay::Answer::Tried(Try::Settled(work)) => Answer::Settled(work_of(work)),
-        replay::Answer::Tried(Try::Failed(failure)) => Answer::Failed(failure_of(failure)),
-        replay::Answer::Tried(Try::Own) => Answer::Own,
-        replay::Answer::Level(levels) => Answer::Level(levels),
-        replay::Answer::Mask(mask) => Answer::Mask(mask),
-        replay::Answer::Told(figures) => Answer::Told(figures_of(figures)),
-        replay::Answer::Refused(fault) => Answer::Refused(refusal_of(fault.report())),
+impl From<settling::Failure> for Answer {
+    fn from(failure: settling::Failure) -> Answer {
+        Answer::Failed(Failure::from(failure))
     }
 }
 
-fn request_of(request: Request) -> replay::Request {
-    match request {
-        Request::Decide { cell, mask } => replay::Request::Decide { cell, mask },
-        Request::Bound { rule, tally } => replay::Request::Bound { rule, tally },
-        Request::Mark => replay::Request::Mark,
-        Request::Back => replay::Request::Back,
-        Request::Cell(cell) => replay::Request::Cell(cell),
-        Request::Tally(rule) => replay::Request::Tally(rule),
-        Request::Figures(rule) => replay::Request::Figures(rule),
+impl From<PostFault> for Answer {
+    fn from(fault: PostFault) -> Answer {
+        Answer::Refused(Refusal::from(fault))
     }
 }
 
-fn sense_of(sense: Sense) -> rules::Sense {
-    match sense {
-        Sense::AtMost => rules::Sense::AtMost,
-        Sense::AtLeast => rules::Sense::AtLeast,
-        Sense::Exactly => rules::Sense::Exactly,
+impl From<PlanFault> for Answer {
+    fn from(fault: PlanFault) -> Answer {
+        Answer::Refused(Refusal::from(fault.report()))
+    }
+}
+
+impl From<LineFault> for Answer {
+    fn from(fault: LineFault) -> Answer {
+        Answer::Refused(Refusal::from(fault.report()))
+    }
+}
+
+impl From<Start> for Answer {
+    fn from(start: Start) -> Answer {
+        match start {
+            Start::Settled(work) => Answer::from(work),
+            Start::Void(failure) => Answer::from(failure),
+            Start::Short => refused(14),
+        }
+    }
+}
+
+impl From<Option<measures::Figures>> for Answer {
+    fn from(figures: Option<measures::Figures>) -> Answer {
+        Answer::Told(figures.map(Figures::from))
+    }
+}
+
+impl From<replay::Answer> for Answer {
+    fn from(answer: replay::Answer) -> Answer {
+        match answer {
+            replay::Answer::Tried(Try::Settled(work)) => Answer::from(work),
+            replay::Answer::Tried(Try::Failed(failure)) => Answer::from(failure),
+            replay::Answer::Tried(Try::Own) => Answer::Own,
+            replay::Answer::Level(levels) => Answer::Level(levels),
+            replay::Answer::Mask(mask) => Answer::Mask(mask),
+            replay::Answer::Told(figures) => Answer::from(figures),
+        }
+    }
+}
+
+impl From<Request> for replay::Request {
+    fn from(request: Request) -> replay::Request {
+        match request {
+            Request::Decide { cell, mask } => replay::Request::Decide { cell, mask },
+            Request::Bound { rule, tally } => replay::Request::Bound { rule, tally },
+            Request::Mark => replay::Request::Mark,
+            Request::Back => replay::Request::Back,
+            Request::Cell(cell) => replay::Request::Cell(cell),
+            Request::Tally(rule) => replay::Request::Tally(rule),
+            Request::Figures(rule) => replay::Request::Figures(rule),
+        }
+    }
+}
+
+impl From<Sense> for rules::Sense {
+    fn from(sense: Sense) -> rules::Sense {
+        match sense {
+            Sense::AtMost => rules::Sense::AtMost,
+            Sense::AtLeast => rules::Sense::AtLeast,
+            Sense::Exactly => rules::Sense::Exactly,
+        }
+    }
+}
+
+// The answer to a question or a post: what came of it, or why it is refused.
+pub fn answer_to<T, E>(told: Result<T, E>) -> Answer
+where
+    Answer: From<T> + From<E>,
+{
+    match told {
+        Ok(told) => Answer::from(told),
+        Err(fault) => Answer::from(fault),
+    }
+}
+
+// Whether a post goes through: else why not.
+pub fn judged<T: Drop, E>(post: Result<T, E>) -> Answer
+where
+    Answer: From<E>,
+{
+    match post {
+        Ok(_) => FINE,
+        Err(fault) => Answer::from(fault),
+    }
+}
+
+// Whether something was taken: else why not. Want of memory ends the trials.
+pub fn taken<T: Drop, F>(post: Result<T, Stopped<F>>) -> Result<Answer, Stop>
+where
+    Answer: From<F>,
+{
+    match post {
+        Ok(_) => Ok(FINE),
+        Err(Stopped::Fault(fault)) => Ok(Answer::from(fault)),
+        Err(Stopped::Memory) => Err(Stop::Memory),
     }
 }
 
 pub fn rule_of(heap: Global, posted: &Posted) -> Result<Rule, Stop> {
     let row = Row::new(heap, posted.cells.as_slice(), 192)?;
-    Ok(Rule::new(row, sense_of(posted.sense), posted.tally)?)
+    Ok(Rule::new(row, rules::Sense::from(posted.sense), posted.tally)?)
 }
 
 // Posts the rules of one kind.
@@ -185,14 +279,14 @@ pub fn start<'a>(
         let _ = tables.post(rule);
     }
     let (plan, start) = draft.start(Pair::new(front, tables), workspace);
-    (plan, start_answer(start))
+    (plan, Answer::from(start))
 }
 
 // Makes a call on the kernel's plan.
 pub fn make(plan: &mut Plan<Rules>, call: Call, workspace: &mut [u64]) -> Answer {
     let call = replay::Call {
-        request: request_of(call.request),
+        request: replay::Request::from(call.request),
         workspace: call.workspace,
     };
-    answer_of(replay::make(plan, call, workspace))
+    answer_to(replay::make(plan, call, workspace))
 }

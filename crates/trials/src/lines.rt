@@ -5,7 +5,6 @@ use crate::counts::more;
 use crate::dice::Dice;
 use crate::drawing::Scale;
 use crate::files::draw_file;
-use crate::kernel::refusal_of;
 use crate::plain::frames;
 use crate::plain::frames::{Halt, Stage};
 use crate::stop::{Stop, What, agree};
@@ -86,7 +85,7 @@ fn read_kernel(
             spelled(bytes, &frame)?;
             Ok(Answer::Holds(true))
         }
-        Err(fault) => Ok(Answer::Refused(refusal_of(fault.report()))),
+        Err(fault) => Ok(Answer::from(fault)),
     }
 }
 
@@ -108,9 +107,9 @@ fn read_plain(
 }
 
 // Reads the lines of a file by both, up to one that is refused.
-pub fn try_lines(bench: &mut Bench, dice: &mut Dice, scale: Scale) -> Result<(), Stop> {
+pub fn try_lines(bench: &mut Bench, scale: Scale) -> Result<(), Stop> {
     let heap = bench.heap;
-    let file = draw_file(heap, dice, scale)?;
+    let file = draw_file(heap, &mut bench.dice, scale)?;
     let mut phase = Phase::Fresh;
     let mut stage = Stage::First;
     for (i, line) in frames::lines_of(heap, file.as_slice())?.iter().enumerate() {

@@ -62,15 +62,15 @@ fn read_options(rt: &HostRuntime) -> anyhow::Result<Options> {
 
 // One case: rules alone, and then a plan of a size that goes by the case's number.
 fn try_case(bench: &mut Bench, seed: u64, case: u64) -> Result<(), Stop> {
-    let mut dice = Dice::new(seed, case);
-    posts::try_posts(bench, &mut dice)?;
-    singles::try_singles(bench, &mut dice)?;
-    lines::try_lines(bench, &mut dice, TINY)?;
+    bench.dice = Dice::new(seed, case);
+    posts::try_posts(bench)?;
+    singles::try_singles(bench)?;
+    lines::try_lines(bench, TINY)?;
     match case % 8 {
-        0 | 1 => plans::try_plan(bench, &mut dice, TINY, 12),
-        2 => plans::try_plan(bench, &mut dice, DEEP, 30),
-        3 if case % 64 == 3 => plans::try_plan(bench, &mut dice, WIDE, 8),
-        _ => plans::try_plan(bench, &mut dice, SMALL, 24),
+        0 | 1 => plans::try_plan(bench, TINY, 12),
+        2 => plans::try_plan(bench, DEEP, 30),
+        3 if case % 64 == 3 => plans::try_plan(bench, WIDE, 8),
+        _ => plans::try_plan(bench, SMALL, 24),
     }
 }
 

@@ -6,11 +6,11 @@ use crate::counts::more;
 use crate::dice::Dice;
 use crate::drawing::{Scale, draw_call, draw_problem, draw_workspace};
 use crate::kernel;
-use crate::kernel::Rules;
+use crate::kernel::{Rules, answer_to};
 use crate::plain::log::{Decision, Log};
 use crate::plain::rounds::{EMPTY, Masks};
 use crate::plain::{fillings, rounds, stable};
-use crate::problem::{CELLS, Call, Problem, Request, WORKSPACE};
+use crate::problem::{Call, Problem, Request, call_of};
 use crate::stop::{Stop, What, agree};
 use automata::CounterAutomaton;
 use families::Family;
@@ -30,14 +30,6 @@ struct Trial<'a> {
     call: u64,
 }
 
-// A call with enough workspace.
-fn call_of(request: Request) -> Call {
-    Call {
-        request,
-        workspace: WORKSPACE,
-    }
-}
-
 // What the kernel answers to a request with enough workspace.
 fn ask(bench: &mut Bench, plan: &mut Plan<Rules>, request: Request) -> Answer {
     kernel::make(plan, call_of(request), bench.workspace.as_mut_slice())
@@ -50,9 +42,9 @@ fn compare_cells(
     masks: &Masks,
     call: u64,
 ) -> Result<(), Stop> {
-    for cell in 0..CELLS {
+    for (cell, mask) in masks.cells.iter().enumerate() {
         let told = ask(bench, plan, Request::Cell(cell));
-        let mask = Answer::Mask(u64::from(masks.cell(cell)));
+        let mask = Answer::Mask(u64::from(*mask));
         agree(call, What::Cell(cell), told, mask)?;
     }
     Ok(())
@@ -125,22 +117,24 @@ fn reordered(heap: Global, dice: &mut Dice, decisions: &[Decision]) -> Result<Ve
     Ok(order)
 }
 
-// The call that makes a decision.
-fn call_for(decision: Decision) -> Call {
-    call_of(match decision {
-        Decision::Cell { cell, mask } => Request::Decide { cell, mask },
-        Decision::Tally { rule, tally } => Request::Bound { rule, tally },
-    })
+impl From<Decision> for Request {
+    fn from(decision: Decision) -> Request {
+        match decision {
+            Decision::Cell { cell, mask } => Request::Decide { cell, mask },
+            Decision::Tally { rule, tally } => Request::Bound { rule, tally },
+        }
+    }
 }
 
 // Whether every cell of a roster is as in these masks.
 fn compare_roster_cells(roster: &Roster<Rules>, masks: &Masks, call: u64) -> Result<(), Stop> {
-    for cell in 0..CELLS {
-        let told = match roster.cell(cell) {
-            Ok(mask) => Answer::Mask(u64::from(mask)),
-            Err(fault) => Answer::Refused(kernel::refusal_of(fault.report())),
-        };
-        let mask = Answer::Mask(u64::from(masks.cell(cell)));
+    for (cell, mask) in masks.cells.iter().enumerate() {
+        let told = answer_to(
+            roster
+                .cell(cell)
+                .map(|mask| replay::Answer::Mask(u64::from(mask))),
+        );
+        let mask = Answer::Mask(u64::from(*mask));
         agree(call, What::Cell(cell), told, mask)?;
     }
     Ok(())
@@ -163,10 +157,7 @@ fn compare_roster_rules(
             told,
             Answer::Mask(masks.tally(rule)),
         )?;
-        let told = match roster.figures(rule, bench.workspace.as_mut_slice()) {
-            Ok(figures) => Answer::Told(kernel::figures_of(figures)),
-            Err(fault) => Answer::Refused(kernel::refusal_of(fault.report())),
-        };
+        let told = answer_to(roster.figures(rule, bench.workspace.as_mut_slice()));
         let figures = if log.is_void() {
             None
         } else {
@@ -304,18 +295,23 @@ impl<'a> Trial<'a> {
     }
 
     // A new plan that makes the standing decisions alone, in another order, shows the same.
-    fn bare_run(&self, bench: &mut Bench, dice: &mut Dice) -> Result<(), Stop> {
+    fn bare_run(&self, bench: &mut Bench) -> Result<(), Stop> {
         if self.log.is_void() {
             return Ok(());
         }
         let heap = bench.heap;
         let standing = self.log.standing(heap)?;
-        let order = reordered(heap, dice, standing.as_slice())?;
+        let order = reordered(heap, &mut bench.dice, standing.as_slice())?;
         let parts = kernel::parts_of(heap, self.problem)?;
         let table = kernel::table_of(self.problem)?;
         let (mut plan, _) = kernel::start(heap, parts, table, bench.workspace.as_mut_slice());
         for decision in order.iter() {
-            let answer = make(bench, &mut plan, call_for(*decision), self.call)?;
+            let answer = make(
+                bench,
+                &mut plan,
+                call_of(Request::from(*decision)),
+                self.call,
+            )?;
             let settled = Answer::Holds(matches!(answer, Answer::Settled(_)));
             agree(self.call, What::BareRun, settled, Answer::Holds(true))?;
             more(&mut bench.counts.again);
@@ -328,12 +324,12 @@ impl<'a> Trial<'a> {
 }
 
 // Tries one plan with so many calls.
-pub fn try_plan(bench: &mut Bench, dice: &mut Dice, scale: Scale, calls: u64) -> Result<(), Stop> {
+pub fn try_plan(bench: &mut Bench, scale: Scale, calls: u64) -> Result<(), Stop> {
     let heap = bench.heap;
-    let problem = draw_problem(heap, dice, scale)?;
-    bench.make_noise(dice);
+    let problem = draw_problem(heap, &mut bench.dice, scale)?;
+    bench.make_noise();
     bench.remember()?;
-    let length = draw_workspace(dice, bench.workspace.len()).min(bench.workspace.len());
+    let length = draw_workspace(&mut bench.dice, bench.workspace.len()).min(bench.workspace.len());
     let parts = kernel::parts_of(heap, &problem)?;
     let table = kernel::table_of(&problem)?;
     let lent = &mut bench.workspace.as_mut_slice()[0..length];
@@ -349,11 +345,17 @@ pub fn try_plan(bench: &mut Bench, dice: &mut Dice, scale: Scale, calls: u64) ->
     trial.check_start(bench, told, plain)?;
     for _ in 0..calls {
         let masks = trial.present(heap)?;
-        let call = draw_call(dice, scale, &problem, &masks, bench.workspace.len());
+        let call = draw_call(
+            &mut bench.dice,
+            scale,
+            &problem,
+            &masks,
+            bench.workspace.len(),
+        );
         trial.step(bench, call)?;
     }
     trial.check_largest(bench)?;
     trial.check_fillings(bench)?;
-    trial.bare_run(bench, dice)?;
+    trial.bare_run(bench)?;
     trial.publish(bench)
 }

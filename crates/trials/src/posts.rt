@@ -3,29 +3,15 @@ use crate::answer::{Answer, Refusal};
 use crate::bench::Bench;
 use crate::counts::more;
 use crate::dice::Dice;
-use crate::kernel::refusal_of;
+use crate::kernel::{judged, taken};
 use crate::plain::faults;
 use crate::stop::{Stop, What, agree};
 use automata::Table;
 use planning::plan::Draft;
-use refusals::{PostError, PostFault};
+use refusals::PostError;
 use rules::{Row, Rule, Sense};
 use std::alloc::Global;
 use words::Word;
-
-// That nothing is wrong.
-const FINE: Answer = Answer::Holds(true);
-
-fn fault_answer(fault: PostFault) -> Answer {
-    Answer::Refused(refusal_of(fault.report()))
-}
-
-fn plain_answer(fault: Option<Refusal>) -> Answer {
-    match fault {
-        Some(refusal) => Answer::Refused(refusal),
-        None => FINE,
-    }
-}
 
 // Compares the answers to a post.
 fn compare(bench: &mut Bench, kernel: Answer, plain: Answer) -> Result<(), Stop> {
@@ -48,44 +34,43 @@ fn draw_bytes(heap: Global, dice: &mut Dice, length: u64, limit: u64) -> Result<
     Ok(bytes)
 }
 
-fn try_word(bench: &mut Bench, dice: &mut Dice) -> Result<(), Stop> {
-    let length = dice.between(0, 18);
-    let duties = draw_bytes(bench.heap, dice, length, 16)?;
-    let kernel = match Word::new(duties.as_slice()) {
-        Ok(_) => FINE,
-        Err(fault) => fault_answer(fault),
-    };
-    let plain = plain_answer(faults::check_word(duties.as_slice()));
+fn try_word(bench: &mut Bench) -> Result<(), Stop> {
+    let length = bench.dice.between(0, 18);
+    let duties = draw_bytes(bench.heap, &mut bench.dice, length, 16)?;
+    let kernel = judged(Word::new(duties.as_slice()));
+    let plain = judged(faults::check_word(duties.as_slice()));
     compare(bench, kernel, plain)
 }
 
-fn try_table(bench: &mut Bench, dice: &mut Dice) -> Result<(), Stop> {
-    let states = dice.between(0, 18);
-    let missing = if dice.one_in(3) { dice.below(20) } else { 0 };
-    let excess = if dice.one_in(3) { dice.below(20) } else { 0 };
+fn try_table(bench: &mut Bench) -> Result<(), Stop> {
+    let states = bench.dice.between(0, 18);
+    let missing = if bench.dice.one_in(3) {
+        bench.dice.below(20)
+    } else {
+        0
+    };
+    let excess = if bench.dice.one_in(3) {
+        bench.dice.below(20)
+    } else {
+        0
+    };
     let length = (16 * states.min(18) + excess.min(20)).saturating_sub(missing);
     let limit = 16 * states.min(18);
-    let steps = draw_bytes(bench.heap, dice, length, limit)?;
+    let steps = draw_bytes(bench.heap, &mut bench.dice, length, limit)?;
     let number = (states % 256) as u8;
-    let kernel = match Table::new(number, steps.as_slice()) {
-        Ok(_) => FINE,
-        Err(fault) => fault_answer(fault),
-    };
-    let plain = plain_answer(faults::check_table(number, steps.as_slice()));
+    let kernel = judged(Table::new(number, steps.as_slice()));
+    let plain = judged(faults::check_table(number, steps.as_slice()));
     compare(bench, kernel, plain)
 }
 
-fn try_map(bench: &mut Bench, dice: &mut Dice) -> Result<(), Stop> {
+fn try_map(bench: &mut Bench) -> Result<(), Stop> {
     let mut classes = [0; 16];
-    let drawn = draw_bytes(bench.heap, dice, 16, 16)?;
+    let drawn = draw_bytes(bench.heap, &mut bench.dice, 16, 16)?;
     for (class, byte) in classes.iter_mut().zip(drawn.iter()) {
         *class = *byte;
     }
-    let kernel = match automata::check_classes(&classes) {
-        Ok(()) => FINE,
-        Err(fault) => fault_answer(fault),
-    };
-    compare(bench, kernel, plain_answer(faults::check_duties(&classes)))
+    let kernel = judged(automata::check_classes(&classes));
+    compare(bench, kernel, judged(faults::check_duties(&classes)))
 }
 
 // A row's cells: one after the other, but for a few.
@@ -105,70 +90,57 @@ fn draw_cells(heap: Global, dice: &mut Dice) -> Result<Vec<u8>, Stop> {
     Ok(cells)
 }
 
-fn post_answer(error: PostError) -> Result<Answer, Stop> {
-    match error {
-        PostError::Fault(fault) => Ok(fault_answer(fault)),
-        PostError::Memory => Err(Stop::Memory),
-    }
+// The rule over a row by the kernel.
+fn kernel_rule(heap: Global, cells: &[u8], limit: usize, tally: u64) -> Result<Rule, PostError> {
+    let row = Row::new(heap, cells, limit)?;
+    Ok(Rule::new(row, Sense::Exactly, tally)?)
+}
+
+// The same by the plain implementation.
+fn check_rule(cells: &[u8], limit: usize, tally: u64) -> Result<(), Refusal> {
+    faults::check_row(cells, limit.min(192))?;
+    faults::check_tally(tally)
 }
 
 // A rule over a row, with a tally that may be empty.
-fn try_rule(bench: &mut Bench, dice: &mut Dice) -> Result<(), Stop> {
-    let cells = draw_cells(bench.heap, dice)?;
-    let limit = dice.between(1, 300) as usize;
-    let tally = if dice.one_in(4) { 0 } else { dice.roll() | 1 };
-    let kernel = match Row::new(bench.heap, cells.as_slice(), limit) {
-        Ok(row) => match Rule::new(row, Sense::Exactly, tally) {
-            Ok(_) => FINE,
-            Err(fault) => fault_answer(fault),
-        },
-        Err(error) => post_answer(error)?,
-    };
-    let empty = if tally == 0 {
-        Some(faults::fault(12, 0))
+fn try_rule(bench: &mut Bench) -> Result<(), Stop> {
+    let cells = draw_cells(bench.heap, &mut bench.dice)?;
+    let limit = bench.dice.between(1, 300) as usize;
+    let tally = if bench.dice.one_in(4) {
+        0
     } else {
-        None
+        bench.dice.roll() | 1
     };
-    let plain = match faults::check_row(cells.as_slice(), limit.min(192)) {
-        Some(refusal) => Some(refusal),
-        None => empty,
-    };
-    compare(bench, kernel, plain_answer(plain))
+    let kernel = taken(kernel_rule(bench.heap, cells.as_slice(), limit, tally))?;
+    compare(
+        bench,
+        kernel,
+        judged(check_rule(cells.as_slice(), limit, tally)),
+    )
 }
 
-fn try_range(bench: &mut Bench, dice: &mut Dice) -> Result<(), Stop> {
-    let first = dice.between(0, 200) as usize;
-    let number = dice.between(0, 200) as usize;
-    let mask = (dice.set(2) & 0xffff) as u16;
+fn try_range(bench: &mut Bench) -> Result<(), Stop> {
+    let first = bench.dice.between(0, 200) as usize;
+    let number = bench.dice.between(0, 200) as usize;
+    let mask = (bench.dice.set(2) & 0xffff) as u16;
     let mut draft = Draft::new();
-    let kernel = match draft.set_range(first, number, mask) {
-        Ok(()) => FINE,
-        Err(fault) => fault_answer(fault),
-    };
-    let plain = faults::check_range(first, number, 192, mask);
-    compare(bench, kernel, plain_answer(plain))
+    let kernel = judged(draft.set_range(first, number, mask));
+    let plain = judged(faults::check_range(first, number, 192, mask));
+    compare(bench, kernel, plain)
 }
 
-fn try_sense(bench: &mut Bench, dice: &mut Dice) -> Result<(), Stop> {
-    let number = (dice.below(5) % 256) as u8;
-    let kernel = match Sense::try_from(number) {
-        Ok(_) => FINE,
-        Err(fault) => fault_answer(fault),
-    };
-    let plain = if number > 2 {
-        Some(faults::fault(11, 0))
-    } else {
-        None
-    };
-    compare(bench, kernel, plain_answer(plain))
+fn try_sense(bench: &mut Bench) -> Result<(), Stop> {
+    let number = (bench.dice.below(5) % 256) as u8;
+    let kernel = judged(Sense::try_from(number));
+    compare(bench, kernel, judged(faults::sense_of(number)))
 }
 
 // Posts one of each.
-pub fn try_posts(bench: &mut Bench, dice: &mut Dice) -> Result<(), Stop> {
-    try_word(bench, dice)?;
-    try_table(bench, dice)?;
-    try_map(bench, dice)?;
-    try_rule(bench, dice)?;
-    try_range(bench, dice)?;
-    try_sense(bench, dice)
+pub fn try_posts(bench: &mut Bench) -> Result<(), Stop> {
+    try_word(bench)?;
+    try_table(bench)?;
+    try_map(bench)?;
+    try_rule(bench)?;
+    try_range(bench)?;
+    try_sense(bench)
 }

@@ -80,3 +80,11 @@ pub struct Call {
     pub request: Request,
     pub workspace: usize,
 }
+
+// A call with enough workspace.
+pub fn call_of(request: Request) -> Call {
+    Call {
+        request,
+        workspace: WORKSPACE,
+    }
+}

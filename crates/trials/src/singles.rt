@@ -4,11 +4,11 @@ use crate::bench::Bench;
 use crate::counts::more;
 use crate::dice::Dice;
 use crate::drawing::{SMALL, Scale, draw_problem, draw_workspace};
-use crate::kernel::{figures_of, mapped_word, refusal_of, rule_of, table_of};
+use crate::kernel::{answer_to, mapped_word, rule_of, table_of};
 use crate::plain::counters::counter_of;
 use crate::plain::rounds::Masks;
 use crate::plain::{judging, rounds};
-use crate::problem::{CELLS, Kind, Posted, Problem, WORKSPACE};
+use crate::problem::{Kind, Posted, Problem, WORKSPACE};
 use crate::stop::{Stop, What, agree};
 use automata::{Among, CounterAutomaton};
 use rules::Rule;
@@ -25,20 +25,15 @@ fn run_kernel<C: CounterAutomaton>(
     let mut tally = masks.tally(0);
     let answer = runs::run(automaton, rule, &mut masks.cells, &mut tally, workspace);
     masks.set_tally(0, tally);
-    match answer {
-        Ok(removed) => Answer::Settled(Work { runs: 1, removed }),
-        Err(fault) => Answer::Refused(refusal_of(fault.report())),
-    }
+    answer_to(answer.map(|removed| settling::Work { runs: 1, removed }))
 }
 
 // Whether each duty is its own class, so that a word needs no map.
 fn is_plain(classes: &[u8; 16]) -> bool {
-    for (duty, class) in classes.iter().enumerate() {
-        if *class as usize != duty {
-            return false;
-        }
-    }
-    true
+    classes
+        .iter()
+        .enumerate()
+        .all(|(duty, class)| usize::from(*class) == duty)
 }
 
 // The same with the automaton of the rule's kind.
@@ -64,14 +59,10 @@ fn run_of(
 // Any masks, empty ones too: those of the problem, of which some values are missing.
 fn draw_masks(dice: &mut Dice, problem: &Problem, posted: &Posted, scale: Scale) -> Masks {
     let mut masks = Masks::new(problem);
-    for cell in 0..scale.cells as usize {
-        let mask = masks.cell(cell);
-        let left = if dice.one_in(2) {
-            mask
-        } else {
-            mask & (dice.roll() & 0xffff) as u16
-        };
-        masks.set_cell(cell, left);
+    for mask in masks.cells.iter_mut().take(scale.cells as usize) {
+        if !dice.one_in(2) {
+            *mask &= (dice.roll() & 0xffff) as u16;
+        }
     }
     let counts = if dice.one_in(3) {
         dice.roll()
@@ -84,9 +75,9 @@ fn draw_masks(dice: &mut Dice, problem: &Problem, posted: &Posted, scale: Scale)
 
 // Whether two masks are the same: the first cell that is not, or the tally of rule 0.
 fn agree_masks(kernel: &Masks, plain: &Masks) -> Result<(), Stop> {
-    for cell in 0..CELLS {
-        let told = Answer::Mask(u64::from(kernel.cell(cell)));
-        let mask = Answer::Mask(u64::from(plain.cell(cell)));
+    for (cell, (told, mask)) in kernel.cells.iter().zip(plain.cells.iter()).enumerate() {
+        let told = Answer::Mask(u64::from(*told));
+        let mask = Answer::Mask(u64::from(*mask));
         agree(0, What::Cell(cell), told, mask)?;
     }
     let told = Answer::Mask(kernel.tally(0));
@@ -94,17 +85,12 @@ fn agree_masks(kernel: &Masks, plain: &Masks) -> Result<(), Stop> {
 }
 
 // Runs one rule by both implementations.
-fn try_run(
-    bench: &mut Bench,
-    dice: &mut Dice,
-    problem: &Problem,
-    posted: &Posted,
-) -> Result<(), Stop> {
-    let start = draw_masks(dice, problem, posted, SMALL);
+fn try_run(bench: &mut Bench, problem: &Problem, posted: &Posted) -> Result<(), Stop> {
+    let start = draw_masks(&mut bench.dice, problem, posted, SMALL);
     let mut kernel = start;
     let mut plain = start;
     bench.remember()?;
-    let length = draw_workspace(dice, bench.workspace.len()).min(bench.workspace.len());
+    let length = draw_workspace(&mut bench.dice, bench.workspace.len()).min(bench.workspace.len());
     let lent = &mut bench.workspace.as_mut_slice()[0..length];
     let told = run_of(bench.heap, problem, posted, &mut kernel, lent)?;
     bench.check_kept(0, told)?;
@@ -128,28 +114,20 @@ fn try_run(
 
 // The figures of a row by the kernel.
 fn figures_kernel<C: CounterAutomaton>(automaton: &C, masks: &[u16], codes: &mut [u64]) -> Answer {
-    match sweeps::row_figures(automaton, masks, codes) {
-        Ok(figures) => Answer::Told(figures_of(figures)),
-        Err(fault) => Answer::Refused(refusal_of(fault.report())),
-    }
+    answer_to(sweeps::row_figures(automaton, masks, codes))
 }
 
 // Compares the figures of a row of any masks, also of none.
-fn try_figures(
-    bench: &mut Bench,
-    dice: &mut Dice,
-    problem: &Problem,
-    kind: Kind,
-) -> Result<(), Stop> {
+fn try_figures(bench: &mut Bench, problem: &Problem, kind: Kind) -> Result<(), Stop> {
     let heap = bench.heap;
     let mut masks = Vec::new(heap);
-    for _ in 0..dice.between(0, 5) {
-        let cell = dice.below(SMALL.cells) as usize;
+    for _ in 0..bench.dice.between(0, 5) {
+        let cell = bench.dice.below(SMALL.cells) as usize;
         masks.push(problem.cells.get(cell).copied().unwrap_or(0))?;
     }
     let row = masks.as_slice();
     bench.remember()?;
-    let lent = dice.between(0, 400).min(bench.workspace.len() as u64) as usize;
+    let lent = bench.dice.between(0, 400).min(bench.workspace.len() as u64) as usize;
     let codes = &mut bench.workspace.as_mut_slice()[0..lent];
     let told = match kind {
         Kind::Among => figures_kernel(&Among::new(problem.set), row, codes),
@@ -167,13 +145,13 @@ fn try_figures(
 }
 
 // Tries each rule of a problem alone, and rows of each kind.
-pub fn try_singles(bench: &mut Bench, dice: &mut Dice) -> Result<(), Stop> {
-    let problem = draw_problem(bench.heap, dice, SMALL)?;
-    bench.make_noise(dice);
+pub fn try_singles(bench: &mut Bench) -> Result<(), Stop> {
+    let problem = draw_problem(bench.heap, &mut bench.dice, SMALL)?;
+    bench.make_noise();
     for posted in problem.rules.iter() {
-        try_run(bench, dice, &problem, posted)?;
+        try_run(bench, &problem, posted)?;
     }
-    try_figures(bench, dice, &problem, Kind::Among)?;
-    try_figures(bench, dice, &problem, Kind::Word)?;
-    try_figures(bench, dice, &problem, Kind::Table)
+    try_figures(bench, &problem, Kind::Among)?;
+    try_figures(bench, &problem, Kind::Word)?;
+    try_figures(bench, &problem, Kind::Table)
 }

@@ -1,6 +1,5 @@
 // Why the trials end early.
 use crate::answer::{Answer, Refusal};
-use crate::kernel::refusal_of;
 use refusals::{PostError, PostFault};
 use std::alloc::{AllocError, AllocFailed};
 use std::fmt;
@@ -62,14 +61,14 @@ impl<T: Drop> From<AllocFailed<T>> for Stop {
 
 impl From<PostFault> for Stop {
     fn from(fault: PostFault) -> Stop {
-        Stop::Unposted(refusal_of(fault.report()))
+        Stop::Unposted(Refusal::from(fault))
     }
 }
 
 impl From<PostError> for Stop {
     fn from(error: PostError) -> Stop {
         match error {
-            PostError::Fault(fault) => Stop::Unposted(refusal_of(fault.report())),
+            PostError::Fault(fault) => Stop::from(fault),
             PostError::Memory => Stop::Memory,
         }
     }

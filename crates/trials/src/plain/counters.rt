@@ -43,12 +43,10 @@ pub struct Reading {
 
 // The length of the longest proper prefix of the word with which the text ends.
 fn matched(word: &[u8], text: &[u8]) -> usize {
-    for length in (1..word.len()).rev() {
-        if text.ends_with(&word[0..length]) {
-            return length;
-        }
-    }
-    0
+    (1..word.len())
+        .rev()
+        .find(|length| text.ends_with(&word[0..*length]))
+        .unwrap_or(0)
 }
 
 impl Reading {

@@ -2,55 +2,38 @@
 use crate::answer::Refusal;
 use crate::plain::faults;
 use crate::plain::frames::{Frame, Halt, byte, number, part};
-use crate::problem::{Kind, Posted, Problem, Sense};
+use crate::problem::{CELLS, Kind, Posted, Problem};
 use std::alloc::{AllocError, Global};
 
 // The most rules of one automaton.
 const RULES_OF_KIND: usize = 24;
 
-// What has been posted so far.
+// What has been posted so far; an automaton or the map, once it is given.
 #[derive(Drop)]
 pub struct Drafted {
     pub size: usize,
-    pub problem: Problem,
-    has_set: bool,
-    has_word: bool,
-    has_table: bool,
-    has_map: bool,
-}
-
-// Goes on where nothing is wrong.
-fn pass(fault: Option<Refusal>) -> Result<(), Halt> {
-    match fault {
-        Some(refusal) => Err(Halt::Fault(refusal)),
-        None => Ok(()),
-    }
+    cells: [u16; CELLS],
+    set: Option<u16>,
+    word: Option<Vec<u8>>,
+    table: Option<(u8, Vec<u8>)>,
+    classes: Option<[u8; 16]>,
+    rules: Vec<Posted>,
 }
 
 // Refuses what was given before.
-fn once(given: bool) -> Result<(), Halt> {
-    pass(if given {
-        Some(faults::fault(22, 0))
-    } else {
-        None
-    })
-}
-
-fn sense_of(number: u8) -> Option<Sense> {
-    match number {
-        0 => Some(Sense::AtMost),
-        1 => Some(Sense::AtLeast),
-        2 => Some(Sense::Exactly),
-        _ => None,
+fn once<T>(given: &Option<T>) -> Result<(), Refusal> {
+    if given.is_some() {
+        return Err(faults::fault(22, 0));
     }
+    Ok(())
 }
 
-fn kind_of(number: u8) -> Option<Kind> {
+fn kind_of(number: u8) -> Result<Kind, Refusal> {
     match number {
-        3 => Some(Kind::Among),
-        4 => Some(Kind::Word),
-        5 => Some(Kind::Table),
-        _ => None,
+        3 => Ok(Kind::Among),
+        4 => Ok(Kind::Word),
+        5 => Ok(Kind::Table),
+        _ => Err(faults::fault(11, 0)),
     }
 }
 
@@ -58,94 +41,85 @@ impl Drafted {
     pub fn new(heap: Global) -> Drafted {
         Drafted {
             size: 0,
-            problem: Problem::new(heap),
-            has_set: false,
-            has_word: false,
-            has_table: false,
-            has_map: false,
+            cells: [0xffff; CELLS],
+            set: None,
+            word: None,
+            table: None,
+            classes: None,
+            rules: Vec::new(heap),
         }
     }
 
-    fn post_masks(&mut self, body: &[u8]) -> Result<(), Halt> {
+    fn post_masks(&mut self, body: &[u8]) -> Result<(), Refusal> {
         let first = usize::from(byte(body, 0));
         let cells = usize::from(byte(body, 1));
         let mask = (number(part(body, 2, 4)) & 0xffff) as u16;
-        pass(faults::check_range(first, cells, self.size, mask))?;
-        for (cell, old) in self.problem.cells.iter_mut().enumerate() {
-            if first <= cell && cell - first < cells {
-                *old = mask;
-            }
+        faults::check_range(first, cells, self.size, mask)?;
+        for old in self.cells.iter_mut().skip(first).take(cells) {
+            *old = mask;
         }
         Ok(())
     }
 
+    fn post_set(&mut self, body: &[u8]) -> Result<(), Refusal> {
+        once(&self.set)?;
+        self.set = Some((number(body) & 0xffff) as u16);
+        Ok(())
+    }
+
     fn post_word(&mut self, heap: Global, body: &[u8]) -> Result<(), Halt> {
-        pass(faults::check_word(body))?;
-        once(self.has_word)?;
-        self.problem.word = Vec::from_slice(heap, body)?;
-        self.has_word = true;
+        faults::check_word(body)?;
+        once(&self.word)?;
+        self.word = Some(Vec::from_slice(heap, body)?);
         Ok(())
     }
 
     fn post_table(&mut self, heap: Global, body: &[u8]) -> Result<(), Halt> {
         let states = byte(body, 0);
         let steps = part(body, 1, body.len());
-        pass(faults::check_table(states, steps))?;
-        once(self.has_table)?;
-        self.problem.states = states;
-        self.problem.steps = Vec::from_slice(heap, steps)?;
-        self.has_table = true;
+        faults::check_table(states, steps)?;
+        once(&self.table)?;
+        self.table = Some((states, Vec::from_slice(heap, steps)?));
         Ok(())
     }
 
-    fn post_map(&mut self, body: &[u8]) -> Result<(), Halt> {
-        pass(faults::check_duties(body))?;
-        once(self.has_map)?;
-        for (class, given) in self.problem.classes.iter_mut().zip(body.iter()) {
-            *class = *given;
-        }
-        self.has_map = true;
+    fn post_map(&mut self, body: &[u8]) -> Result<(), Refusal> {
+        faults::check_duties(body)?;
+        once(&self.classes)?;
+        self.classes = <[u8; 16]>::try_from(body).ok();
         Ok(())
     }
 
     // Whether a kind's automaton is there.
     fn has(&self, kind: Kind) -> bool {
         match kind {
-            Kind::Among => self.has_set,
-            Kind::Word => self.has_word,
-            Kind::Table => self.has_table,
+            Kind::Among => self.set.is_some(),
+            Kind::Word => self.word.is_some(),
+            Kind::Table => self.table.is_some(),
         }
     }
 
-    // How many rules a kind has.
-    fn rules_of(&self, kind: Kind) -> usize {
-        let mut count = 0usize;
-        for posted in self.problem.rules.iter() {
-            if posted.kind == kind {
-                count = count.saturating_add(1);
-            }
+    // A kind that a rule may count with: its automaton is there, and it has room for a rule more.
+    fn check_kind(&self, kind: Kind) -> Result<(), Refusal> {
+        if !self.has(kind) {
+            return Err(faults::fault(23, 0));
         }
-        count
+        if self.rules.iter().filter(|rule| rule.kind == kind).count() >= RULES_OF_KIND {
+            return Err(faults::fault(24, 0));
+        }
+        Ok(())
     }
 
     fn post_rule(&mut self, heap: Global, body: &[u8]) -> Result<(), Halt> {
         let cells = part(body, 10, body.len());
         let tally = number(part(body, 2, 10));
-        pass(faults::check_row(cells, self.size))?;
-        let (Some(kind), Some(sense)) = (kind_of(byte(body, 0)), sense_of(byte(body, 1))) else {
-            return Err(Halt::Fault(faults::fault(11, 0)));
-        };
-        if tally == 0 {
-            return Err(Halt::Fault(faults::fault(12, 0)));
-        }
-        if !self.has(kind) {
-            return Err(Halt::Fault(faults::fault(23, 0)));
-        }
-        if self.rules_of(kind) >= RULES_OF_KIND {
-            return Err(Halt::Fault(faults::fault(24, 0)));
-        }
+        faults::check_row(cells, self.size)?;
+        let sense = faults::sense_of(byte(body, 1))?;
+        let kind = kind_of(byte(body, 0))?;
+        faults::check_tally(tally)?;
+        self.check_kind(kind)?;
         let cells = Vec::from_slice(heap, cells)?;
-        self.problem.rules.push(Posted {
+        self.rules.push(Posted {
             kind,
             sense,
             tally,
@@ -160,11 +134,7 @@ impl Drafted {
         match frame.kind {
             0x01 => self.size = usize::from(byte(body, 0)),
             0x02 => self.post_masks(body)?,
-            0x03 => {
-                once(self.has_set)?;
-                self.problem.set = (number(body) & 0xffff) as u16;
-                self.has_set = true;
-            }
+            0x03 => self.post_set(body)?,
             0x04 => self.post_word(heap, body)?,
             0x05 => self.post_table(heap, body)?,
             0x06 => self.post_map(body)?,
@@ -173,33 +143,47 @@ impl Drafted {
         }
         Ok(())
     }
-}
 
-// Adds the rules of one kind.
-fn add_kind(
-    heap: Global,
-    from: &[Posted],
-    kind: Kind,
-    rules: &mut Vec<Posted>,
-) -> Result<(), AllocError> {
-    for posted in from {
-        if posted.kind == kind {
-            rules.push(Posted {
-                kind,
-                sense: posted.sense,
-                tally: posted.tally,
-                cells: Vec::from_slice(heap, posted.cells.as_slice())?,
-            })?;
+    // The problem that was posted. What was not given, no rule counts with.
+    pub fn problem(self, heap: Global) -> Result<Problem, AllocError> {
+        let Drafted {
+            size: _,
+            cells,
+            set,
+            word,
+            table,
+            classes,
+            rules,
+        } = self;
+        let mut problem = Problem::new(heap);
+        problem.cells = cells;
+        problem.set = set.unwrap_or(problem.set);
+        problem.classes = classes.unwrap_or(problem.classes);
+        problem.rules = in_order(heap, rules)?;
+        if let Some(word) = word {
+            problem.word = word;
         }
+        if let Some((states, steps)) = table {
+            problem.states = states;
+            problem.steps = steps;
+        }
+        Ok(problem)
     }
-    Ok(())
 }
 
 // The rules in the order of their numbers: by kind, and then as they were posted.
-pub fn in_order(heap: Global, from: &[Posted]) -> Result<Vec<Posted>, AllocError> {
-    let mut rules = Vec::new(heap);
-    add_kind(heap, from, Kind::Among, &mut rules)?;
-    add_kind(heap, from, Kind::Word, &mut rules)?;
-    add_kind(heap, from, Kind::Table, &mut rules)?;
-    Ok(rules)
+fn in_order(heap: Global, rules: Vec<Posted>) -> Result<Vec<Posted>, AllocError> {
+    let mut amongs = Vec::new(heap);
+    let mut words = Vec::new(heap);
+    let mut tables = Vec::new(heap);
+    for rule in rules {
+        match rule.kind {
+            Kind::Among => amongs.push(rule)?,
+            Kind::Word => words.push(rule)?,
+            Kind::Table => tables.push(rule)?,
+        }
+    }
+    amongs.extend(words)?;
+    amongs.extend(tables)?;
+    Ok(amongs)
 }

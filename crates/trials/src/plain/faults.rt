@@ -1,5 +1,6 @@
 // What is wrong with a word, a table, a row and the rest, looked at in the order of the numbers.
 use crate::answer::{Layer, Refusal};
+use crate::problem::Sense;
 
 // A fault of something posted.
 pub fn fault(number: u8, place: usize) -> Refusal {
@@ -12,12 +13,9 @@ pub fn fault(number: u8, place: usize) -> Refusal {
 
 // The first of some numbers that is not below a limit.
 fn first_at_least(numbers: &[u8], limit: usize) -> Option<usize> {
-    for (place, number) in numbers.iter().enumerate() {
-        if usize::from(*number) >= limit {
-            return Some(place);
-        }
-    }
-    None
+    numbers
+        .iter()
+        .position(|number| usize::from(*number) >= limit)
 }
 
 // The first of some numbers that stood before.
@@ -33,55 +31,68 @@ fn first_repeated(numbers: &[u8]) -> Option<usize> {
     None
 }
 
-pub fn check_word(duties: &[u8]) -> Option<Refusal> {
+// Goes on where there is no place at fault.
+fn none_at(number: u8, place: Option<usize>) -> Result<(), Refusal> {
+    match place {
+        Some(place) => Err(fault(number, place)),
+        None => Ok(()),
+    }
+}
+
+pub fn check_word(duties: &[u8]) -> Result<(), Refusal> {
     if duties.is_empty() || duties.len() > 16 {
-        return Some(fault(4, duties.len().min(16)));
+        return Err(fault(4, duties.len().min(16)));
     }
     check_duties(duties)
 }
 
 // Duties, or classes, are below 16.
-pub fn check_duties(duties: &[u8]) -> Option<Refusal> {
-    match first_at_least(duties, 16) {
-        Some(place) => Some(fault(9, place)),
-        None => None,
-    }
+pub fn check_duties(duties: &[u8]) -> Result<(), Refusal> {
+    none_at(9, first_at_least(duties, 16))
 }
 
-pub fn check_table(states: u8, steps: &[u8]) -> Option<Refusal> {
+pub fn check_table(states: u8, steps: &[u8]) -> Result<(), Refusal> {
     let needed = usize::from(states).saturating_mul(16);
     if steps.len() != needed {
-        return Some(fault(4, steps.len().min(needed)));
+        return Err(fault(4, steps.len().min(needed)));
     }
     if states == 0 || states > 16 {
-        return Some(fault(8, 0));
+        return Err(fault(8, 0));
     }
-    match first_at_least(steps, needed) {
-        Some(place) => Some(fault(8, place)),
-        None => None,
-    }
+    none_at(8, first_at_least(steps, needed))
 }
 
-pub fn check_row(cells: &[u8], limit: usize) -> Option<Refusal> {
+pub fn check_row(cells: &[u8], limit: usize) -> Result<(), Refusal> {
     if cells.is_empty() || cells.len() > 64 {
-        return Some(fault(4, cells.len().min(64)));
+        return Err(fault(4, cells.len().min(64)));
     }
-    if let Some(place) = first_at_least(cells, limit) {
-        return Some(fault(6, place));
+    none_at(6, first_at_least(cells, limit))?;
+    none_at(10, first_repeated(cells))
+}
+
+// A rule's tally has a count.
+pub fn check_tally(tally: u64) -> Result<(), Refusal> {
+    if tally == 0 {
+        return Err(fault(12, 0));
     }
-    match first_repeated(cells) {
-        Some(place) => Some(fault(10, place)),
-        None => None,
-    }
+    Ok(())
 }
 
 // A range of cells of a draft, and its mask.
-pub fn check_range(first: usize, number: usize, limit: usize, mask: u16) -> Option<Refusal> {
+pub fn check_range(first: usize, number: usize, limit: usize, mask: u16) -> Result<(), Refusal> {
     if number == 0 || first.saturating_add(number) > limit {
-        return Some(fault(6, 0));
+        return Err(fault(6, 0));
     }
     if mask == 0 {
-        return Some(fault(7, 0));
+        return Err(fault(7, 0));
     }
-    None
+    Ok(())
+}
+
+// The sense of a number.
+pub fn sense_of(number: u8) -> Result<Sense, Refusal> {
+    [Sense::AtMost, Sense::AtLeast, Sense::Exactly]
+        .get(usize::from(number))
+        .copied()
+        .ok_or(fault(11, 0))
 }

@@ -3,8 +3,16 @@ use crate::plain::counters::{Reading, counter_of};
 use crate::plain::judging::met;
 use crate::plain::rounds::{EMPTY, Masks};
 use crate::plain::sequences::Odometer;
-use crate::problem::{Posted, Problem};
+use crate::problem::{CELLS, Posted, Problem};
 use std::alloc::{AllocError, Global};
+
+// The duties that a filling gives the cells of a row.
+pub fn sequence_of(heap: Global, cells: &[u8], filling: &[u8]) -> Result<Vec<u8>, AllocError> {
+    cells
+        .iter()
+        .map(|cell| filling.get(usize::from(*cell)).copied().unwrap_or(0))
+        .collect(heap)
+}
 
 // The counts of a rule's tally that the total of a filling meets.
 fn counts_met(
@@ -14,11 +22,7 @@ fn counts_met(
     tally: u64,
     filling: &[u8],
 ) -> Result<u64, AllocError> {
-    let mut sequence = Vec::new(heap);
-    for cell in rule.cells.iter() {
-        let duty = filling.get(usize::from(*cell)).copied().unwrap_or(0);
-        sequence.push(duty)?;
-    }
+    let sequence = sequence_of(heap, rule.cells.as_slice(), filling)?;
     let mut reading = Reading::new(heap);
     reading.read(counter_of(problem, rule.kind), sequence.as_slice())?;
     Ok(tally & met(rule.sense, reading.total))
@@ -51,28 +55,14 @@ fn accepted(
     Ok(Some(used))
 }
 
-// Adds to the tallies what is open in others.
-fn unite_tallies(masks: &mut Masks, others: &Masks) {
-    for (tally, other) in masks.tallies.iter_mut().zip(others.tallies.iter()) {
-        *tally |= *other;
-    }
-}
-
 // Adds to the masks what is open in others.
 fn unite(masks: &mut Masks, others: &Masks) {
     for (mask, other) in masks.cells.iter_mut().zip(others.cells.iter()) {
         *mask |= *other;
     }
-    unite_tallies(masks, others);
-}
-
-// The masks of the first cells, so many.
-fn first_masks(heap: Global, cells: usize, masks: &Masks) -> Result<Vec<u16>, AllocError> {
-    let mut first = Vec::new(heap);
-    for mask in masks.cells.iter().take(cells) {
-        first.push(*mask)?;
+    for (tally, other) in masks.tallies.iter_mut().zip(others.tallies.iter()) {
+        *tally |= *other;
     }
-    Ok(first)
 }
 
 // What the accepted fillings of the first cells use, where every row lies in these: nothing where there is none.
@@ -82,15 +72,13 @@ pub fn used(
     cells: usize,
     within: &Masks,
 ) -> Result<Masks, AllocError> {
-    let first = first_masks(heap, cells, within)?;
-    let odometer = Odometer::new(heap, first.as_slice())?;
-    let mut filling = Vec::new(heap);
+    let first = &within.cells[..cells.min(CELLS)];
     let mut all = EMPTY;
-    for number in 0..odometer.count() {
-        odometer.show(number, &mut filling)?;
-        if let Some(masks) = accepted(heap, problem, within, filling.as_slice())? {
+    Odometer::new(heap, first)?.each(heap, |filling| {
+        if let Some(masks) = accepted(heap, problem, within, filling)? {
             unite(&mut all, &masks);
         }
-    }
+        Ok(())
+    })?;
     Ok(all)
 }

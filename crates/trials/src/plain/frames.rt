@@ -19,6 +19,12 @@ pub enum Halt {
     Fault(Refusal),
 }
 
+impl From<Refusal> for Halt {
+    fn from(refusal: Refusal) -> Halt {
+        Halt::Fault(refusal)
+    }
+}
+
 impl From<AllocError> for Halt {
     fn from(_e: AllocError) -> Halt {
         Halt::Memory
@@ -40,7 +46,8 @@ pub enum Stage {
     Ended,
 }
 
-// A frame: its kind, and the bytes after it.
+// A frame: its kind, and the bytes after it. The kind is the number that the file has: this reading
+// shares no table of kinds with the kernel's.
 #[derive(Drop)]
 pub struct Frame {
     pub kind: u8,
@@ -75,12 +82,10 @@ fn fault(number: u8, layer: Layer, place: usize) -> Halt {
 
 // What a digit is worth.
 fn worth(character: u8) -> Option<u8> {
-    for (worth, digit) in b"0123456789abcdef".iter().enumerate() {
-        if *digit == character {
-            return Some((worth % 16) as u8);
-        }
-    }
-    None
+    let place = b"0123456789abcdef"
+        .iter()
+        .position(|digit| *digit == character)?;
+    Some((place % 16) as u8)
 }
 
 // The bytes that a line's digits spell.
@@ -155,10 +160,7 @@ pub fn read_frame(heap: Global, line: &Line, stage: &mut Stage) -> Result<Frame,
     if !may_come(*stage, kind) {
         return Err(fault(21, Layer::Frame, 0));
     }
-    let mut body = Vec::new(heap);
-    for byte in bytes.iter().skip(1) {
-        body.push(*byte)?;
-    }
+    let body = Vec::from_slice(heap, part(bytes.as_slice(), 1, bytes.len()))?;
     if !fits(kind, body.len()) {
         return Err(fault(4, Layer::Frame, 0));
     }
@@ -172,11 +174,9 @@ pub fn read_frame(heap: Global, line: &Line, stage: &mut Stage) -> Result<Frame,
 
 // The number that bytes spell, the high byte first; of more than eight bytes the last eight count.
 pub fn number(bytes: &[u8]) -> u64 {
-    let mut number = 0u64;
-    for byte in bytes {
-        number = number << 8 | u64::from(*byte);
-    }
-    number
+    bytes
+        .iter()
+        .fold(0u64, |number, byte| number << 8 | u64::from(*byte))
 }
 
 // Some of the bytes of a body; none where they are not there.

@@ -24,6 +24,13 @@ const NOTHING: Span = Span {
     greatest: 0,
 };
 
+// Figures of no sequence.
+const NO_FIGURES: Figures = Figures {
+    least: u64::MAX,
+    greatest: 0,
+    totals: 0,
+};
+
 impl Span {
     // The span with one total more.
     fn with(self, total: u64) -> Span {
@@ -65,6 +72,23 @@ fn keep(masks: &mut Vec<u16>, sequence: &[u8]) {
     }
 }
 
+// Visits every sequence over the masks, read by the counter.
+fn each_reading<F: FnMut(&[u8], &Reading)>(
+    heap: Global,
+    counter: Counter,
+    masks: &[u16],
+    mut visit: F,
+) -> Result<(), AllocError>
+    requires { (f : _) (sequence : _) (reading : _) → F.pre f sequence reading }
+{
+    let mut reading = Reading::new(heap);
+    Odometer::new(heap, masks)?.each(heap, |sequence| {
+        reading.read(counter, sequence)?;
+        visit(sequence, &reading);
+        Ok(())
+    })
+}
+
 // At most and at least: what is kept is what some sequence uses whose total meets an open count.
 fn judge_by_sequences(
     heap: Global,
@@ -73,20 +97,15 @@ fn judge_by_sequences(
     masks: &[u16],
     tally: u64,
 ) -> Result<Left, AllocError> {
-    let odometer = Odometer::new(heap, masks)?;
     let mut kept = vec![in heap; 0u16; masks.len()]?;
     let mut counts = 0;
-    let mut sequence = Vec::new(heap);
-    let mut reading = Reading::new(heap);
-    for number in 0..odometer.count() {
-        odometer.show(number, &mut sequence)?;
-        reading.read(counter, sequence.as_slice())?;
+    each_reading(heap, counter, masks, |sequence, reading| {
         let met = met(sense, reading.total);
         counts |= met;
         if met & tally != 0 {
-            keep(&mut kept, sequence.as_slice());
+            keep(&mut kept, sequence);
         }
-    }
+    })?;
     Ok(Left {
         masks: kept,
         tally: tally & counts,
@@ -132,43 +151,31 @@ impl Spans {
 
     // Whether, from some state, a duty at a place has an open count in its span.
     fn keeps(&self, tally: u64, place: usize, duty: usize) -> bool {
-        for state in 0..16usize {
-            let index = index_of(place, state, duty);
-            let span = self.through.get(index).copied().unwrap_or(NOTHING);
-            if span.counts() & tally != 0 {
-                return true;
-            }
-        }
-        false
+        (0..16usize).any(|state| {
+            let span = self.through.get(index_of(place, state, duty)).copied();
+            span.unwrap_or(NOTHING).counts() & tally != 0
+        })
     }
 
     // The duties that are kept at a place.
     fn kept(&self, tally: u64, place: usize) -> u16 {
-        let mut mask = 0;
-        for duty in 0..16usize {
-            if self.keeps(tally, place, duty) {
-                mask |= 1 << duty;
-            }
-        }
-        mask
+        (0..16usize)
+            .filter(|duty| self.keeps(tally, place, *duty))
+            .fold(0, |mask, duty| mask | 1 << duty % 16)
     }
 
     // The duties that are kept at each place.
     fn kept_masks(&self, heap: Global, tally: u64, places: usize) -> Result<Vec<u16>, AllocError> {
-        let mut masks = Vec::new(heap);
-        for place in 0..places {
-            masks.push(self.kept(tally, place))?;
-        }
-        Ok(masks)
+        (0..places)
+            .map(|place| self.kept(tally, place))
+            .collect(heap)
     }
 
     // The counts that some end state's span encloses.
     fn counts(&self) -> u64 {
-        let mut counts = 0;
-        for span in self.at_end.iter() {
-            counts |= span.counts();
-        }
-        counts
+        self.at_end
+            .iter()
+            .fold(0, |counts, span| counts | span.counts())
     }
 }
 
@@ -179,15 +186,10 @@ fn judge_by_spans(
     masks: &[u16],
     tally: u64,
 ) -> Result<Left, AllocError> {
-    let odometer = Odometer::new(heap, masks)?;
     let mut spans = Spans::new(heap, masks.len())?;
-    let mut sequence = Vec::new(heap);
-    let mut reading = Reading::new(heap);
-    for number in 0..odometer.count() {
-        odometer.show(number, &mut sequence)?;
-        reading.read(counter, sequence.as_slice())?;
-        spans.add(&reading, sequence.as_slice());
-    }
+    each_reading(heap, counter, masks, |sequence, reading| {
+        spans.add(reading, sequence);
+    })?;
     Ok(Left {
         masks: spans.kept_masks(heap, tally, masks.len())?,
         tally: tally & spans.counts(),
@@ -214,23 +216,15 @@ pub fn figures(
     counter: Counter,
     masks: &[u16],
 ) -> Result<Option<Figures>, AllocError> {
-    let odometer = Odometer::new(heap, masks)?;
-    let mut span = NOTHING;
-    let mut totals = 0;
-    let mut sequence = Vec::new(heap);
-    let mut reading = Reading::new(heap);
-    for number in 0..odometer.count() {
-        odometer.show(number, &mut sequence)?;
-        reading.read(counter, sequence.as_slice())?;
-        span = span.with(reading.total);
-        totals |= met(Sense::Exactly, reading.total);
-    }
-    if odometer.count() == 0 {
-        return Ok(None);
-    }
-    Ok(Some(Figures {
-        least: span.least,
-        greatest: span.greatest,
-        totals,
-    }))
+    let mut figures = None;
+    each_reading(heap, counter, masks, |_, reading| {
+        let total = reading.total;
+        let seen = figures.unwrap_or(NO_FIGURES);
+        figures = Some(Figures {
+            least: seen.least.min(total),
+            greatest: seen.greatest.max(total),
+            totals: seen.totals | met(Sense::Exactly, total),
+        });
+    })?;
+    Ok(figures)
 }

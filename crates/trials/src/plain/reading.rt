@@ -1,10 +1,10 @@
 // A file of frames carried out by the plain implementation alone: the text that it has to print.
-use crate::answer::{Answer, Layer, Refusal};
-use crate::plain::drafted::{Drafted, in_order};
+use crate::answer::{Answer, refused};
+use crate::plain::drafted::Drafted;
 use crate::plain::frames::{Frame, Halt, Line, Stage, byte, lines_of, number, part, read_frame};
 use crate::plain::log::Log;
 use crate::plain::rounds::Masks;
-use crate::problem::{Call, Request, WORKSPACE};
+use crate::problem::{Request, WORKSPACE, call_of};
 use std::alloc::{AllocError, Global};
 use std::fmt;
 
@@ -103,10 +103,7 @@ fn said(
         Answer::Failed(failure) => {
             let rule = failure.rule;
             let runs = failure.work.runs;
-            let empty = match failure.cell {
-                Some(cell) => Spot::Cell(cell),
-                None => Spot::Tally(rule),
-            };
+            let empty = failure.cell.map_or(Spot::Tally(rule), Spot::Cell);
             format!(in heap; "{name} {fails} rule {rule} {empty} runs {runs}")
         }
         Answer::Own => format!(in heap; "{name} {fails} own {spot} runs 0"),
@@ -146,108 +143,73 @@ fn figures_text(heap: Global, answer: Answer) -> Result<String, AllocError> {
     }
 }
 
-// The cells of the plan in a published roster.
-fn publish_cells(
+// A plan of a file: how many cells and rules it has, how far the file has come, and what was printed.
+#[derive(Drop)]
+struct Running<'a> {
     heap: Global,
-    masks: &Masks,
-    size: usize,
-    out: &mut String,
-) -> Result<(), AllocError> {
-    for cell in 0..size {
-        let mask = masks.cell(cell);
-        out.push_str(format!(in heap; "cell {cell} {mask:04x}\n")?.as_str())?;
-    }
-    Ok(())
-}
-
-// What a published roster shows: each cell of the plan, and each rule.
-fn publish(
-    heap: Global,
-    log: &mut Log,
     size: usize,
     rules: usize,
-    out: &mut String,
-) -> Result<(), AllocError> {
-    let masks = log.masks(heap)?;
-    publish_cells(heap, &masks, size, out)?;
-    for rule in 0..rules {
-        let tally = masks.tally(rule);
-        let call = Call {
-            request: Request::Figures(rule),
-            workspace: WORKSPACE,
-        };
-        let figures = figures_text(heap, log.make(heap, call)?)?;
-        out.push_str(format!(in heap; "rule {rule} {tally:016x} {figures}\n")?.as_str())?;
-    }
-    Ok(())
+    log: Log<'a>,
+    stage: Stage,
+    out: String,
 }
 
-// The answer to a request. A cell that is none of the file's is refused.
-fn answer_of(
-    heap: Global,
-    size: usize,
-    request: Request,
-    log: &mut Log,
-) -> Result<Answer, AllocError> {
-    match request {
-        Request::Decide { cell, mask: _ } if cell >= size => Ok(Answer::Refused(Refusal {
-            number: 6,
-            layer: Layer::Plan,
-            place: 0,
-        })),
-        _ => log.make(
-            heap,
-            Call {
-                request,
-                workspace: WORKSPACE,
-            },
-        ),
+impl<'a> Running<'a> {
+    // The cells of the plan in a published roster.
+    fn publish_cells(&mut self, masks: &Masks) -> Result<(), AllocError> {
+        for (cell, mask) in masks.cells.iter().enumerate().take(self.size) {
+            let text = format!(in self.heap; "cell {cell} {mask:04x}\n")?;
+            self.out.push_str(text.as_str())?;
+        }
+        Ok(())
     }
-}
 
-// Carries out a line after the start, and prints its answer.
-fn carry_out(
-    heap: Global,
-    line: &Line,
-    at: usize,
-    stage: &mut Stage,
-    size: usize,
-    log: &mut Log,
-    out: &mut String,
-) -> Result<bool, Halt> {
-    let frame = read_frame(heap, line, stage)?;
-    if frame.kind == 0x0d {
-        tell(out, at, "publish ok")?;
-        return Ok(true);
+    // What a published roster shows: each cell of the plan, and each rule.
+    fn publish(&mut self) -> Result<(), AllocError> {
+        let masks = self.log.masks(self.heap)?;
+        self.publish_cells(&masks)?;
+        for (rule, tally) in masks.tallies.iter().enumerate().take(self.rules) {
+            let call = call_of(Request::Figures(rule));
+            let answer = self.log.make(self.heap, call)?;
+            let figures = figures_text(self.heap, answer)?;
+            let text = format!(in self.heap; "rule {rule} {tally:016x} {figures}\n")?;
+            self.out.push_str(text.as_str())?;
+        }
+        Ok(())
     }
-    let request = request_of(&frame);
-    let answer = answer_of(heap, size, request, log)?;
-    let (name, spot) = named(request);
-    let text = said(heap, name, "fails", spot, answer)?;
-    tell(out, at, text.as_str())?;
-    Ok(false)
-}
 
-// Carries out the lines after the start.
-fn carry_on(
-    heap: Global,
-    lines: &[Line],
-    started: usize,
-    drafted: &Drafted,
-    log: &mut Log,
-    out: &mut String,
-) -> Result<(), AllocError> {
-    let mut stage = Stage::Running;
-    let rules = drafted.problem.rules.len();
-    for (i, line) in lines.iter().enumerate().skip(started) {
-        let at = i.saturating_add(1);
-        match carry_out(heap, line, at, &mut stage, drafted.size, log, out) {
-            Ok(true) => publish(heap, log, drafted.size, rules, out)?,
-            Ok(false) => {}
-            Err(halt) => return tell_halt(out, at, halt),
+    // The answer to a request. A cell that is none of the file's is refused.
+    fn answer(&mut self, request: Request) -> Result<Answer, AllocError> {
+        match request {
+            Request::Decide { cell, mask: _ } if cell >= self.size => Ok(refused(6)),
+            _ => self.log.make(self.heap, call_of(request)),
         }
     }
-    Ok(())
+
+    // Carries out a line, and prints its answer.
+    fn carry_out(&mut self, line: &Line, at: usize) -> Result<(), Halt> {
+        let frame = read_frame(self.heap, line, &mut self.stage)?;
+        if frame.kind == 0x0d {
+            tell(&mut self.out, at, "publish ok")?;
+            return Ok(self.publish()?);
+        }
+        let request = request_of(&frame);
+        let answer = self.answer(request)?;
+        let (name, spot) = named(request);
+        let text = said(self.heap, name, "fails", spot, answer)?;
+        Ok(tell(&mut self.out, at, text.as_str())?)
+    }
+
+    // Carries out the lines after the start.
+    fn carry_on(&mut self, lines: &[Line], started: usize) -> Result<(), AllocError> {
+        for (i, line) in lines.iter().enumerate().skip(started) {
+            let at = i.saturating_add(1);
+            if let Err(halt) = self.carry_out(line, at) {
+                return tell_halt(&mut self.out, at, halt);
+            }
+        }
+        Ok(())
+    }
 }
 
 // The text that carrying out a file prints.
@@ -258,18 +220,20 @@ pub fn roster_text(heap: Global, file: &[u8]) -> Result<String, AllocError> {
     let Some(started) = draft(heap, lines.as_slice(), &mut drafted, &mut out)? else {
         return Ok(out);
     };
-    let rules = in_order(heap, drafted.problem.rules.as_slice())?;
-    drafted.problem.rules = rules;
-    let (mut log, answer) = Log::start(heap, &drafted.problem, WORKSPACE)?;
+    let size = drafted.size;
+    let problem = drafted.problem(heap)?;
+    let (log, answer) = Log::start(heap, &problem, WORKSPACE)?;
     let text = said(heap, "start", "void", Spot::Cell(0), answer)?;
     tell(&mut out, started, text.as_str())?;
-    carry_on(
+    let mut running = Running {
         heap,
-        lines.as_slice(),
-        started,
-        &drafted,
-        &mut log,
-        &mut out,
-    )?;
+        size,
+        rules: problem.rules.len(),
+        log,
+        stage: Stage::Running,
+        out,
+    };
+    running.carry_on(lines.as_slice(), started)?;
+    let Running { out, .. } = running;
     Ok(out)
 }

@@ -52,53 +52,32 @@ impl Masks {
         }
     }
 
-    // Whether all that is open in the tallies here is open there too.
-    fn tallies_lie_within(&self, others: &Masks) -> bool {
-        for (tally, other) in self.tallies.iter().zip(others.tallies.iter()) {
-            if *tally & !*other != 0 {
-                return false;
-            }
-        }
-        true
-    }
-
     // Whether all that is open here is open there too.
     pub fn lie_within(&self, others: &Masks) -> bool {
-        for (mask, other) in self.cells.iter().zip(others.cells.iter()) {
-            if *mask & !*other != 0 {
-                return false;
-            }
-        }
-        self.tallies_lie_within(others)
+        let cells = self.cells.iter().zip(others.cells.iter());
+        let tallies = self.tallies.iter().zip(others.tallies.iter());
+        cells.into_iter().all(|(mask, other)| *mask & !*other == 0)
+            && tallies
+                .into_iter()
+                .all(|(tally, other)| *tally & !*other == 0)
     }
 
     // Whether a cell has nothing open, or the tally of one of so many rules.
     pub fn has_empty(&self, rules: usize) -> bool {
-        for (_, tally) in (0..rules).zip(self.tallies.iter()) {
-            if *tally == 0 {
-                return true;
-            }
-        }
-        self.empty_cell().is_some()
+        self.tallies.iter().take(rules).any(|tally| *tally == 0) || self.empty_cell().is_some()
     }
 
     // The masks along a row.
     fn along(&self, heap: Global, cells: &[u8]) -> Result<Vec<u16>, AllocError> {
-        let mut masks = Vec::new(heap);
-        for cell in cells {
-            masks.push(self.cell(usize::from(*cell)))?;
-        }
-        Ok(masks)
+        cells
+            .iter()
+            .map(|cell| self.cell(usize::from(*cell)))
+            .collect(heap)
     }
 
     // The lowest cell with nothing open.
     fn empty_cell(&self) -> Option<usize> {
-        for (cell, mask) in self.cells.iter().enumerate() {
-            if *mask == 0 {
-                return Some(cell);
-            }
-        }
-        None
+        self.cells.iter().position(|mask| *mask == 0)
     }
 }
 

@@ -9,35 +9,29 @@ pub struct Odometer {
 
 // The open duties of a mask.
 fn wheel(heap: Global, mask: u16) -> Result<Vec<u8>, AllocError> {
-    let mut duties = Vec::new(heap);
-    for duty in 0..16u8 {
-        if (mask >> duty) & 1 == 1 {
-            duties.push(duty)?;
-        }
-    }
-    Ok(duties)
+    (0..16u8)
+        .filter(|duty| (mask >> *duty) & 1 == 1)
+        .collect(heap)
 }
 
 impl Odometer {
     pub fn new(heap: Global, masks: &[u16]) -> Result<Odometer, AllocError> {
-        let mut wheels = Vec::new(heap);
-        for mask in masks {
-            wheels.push(wheel(heap, *mask)?)?;
-        }
+        let wheels = masks
+            .iter()
+            .map(|mask| wheel(heap, *mask))
+            .try_collect(heap)?;
         Ok(Odometer { wheels })
     }
 
     // How many sequences there are: one over no mask, none over an empty one.
     pub fn count(&self) -> u64 {
-        let mut count = 1u64;
-        for wheel in self.wheels.iter() {
-            count = count.saturating_mul(wheel.len() as u64);
-        }
-        count
+        self.wheels.iter().fold(1u64, |count, wheel| {
+            count.saturating_mul(wheel.len() as u64)
+        })
     }
 
     // The sequence of a number: the first wheel turns fastest.
-    pub fn show(&self, number: u64, sequence: &mut Vec<u8>) -> Result<(), AllocError> {
+    fn show(&self, number: u64, sequence: &mut Vec<u8>) -> Result<(), AllocError> {
         sequence.clear();
         let mut rest = number;
         for wheel in self.wheels.iter() {
@@ -45,6 +39,22 @@ impl Odometer {
             let at = rest.checked_rem(size).unwrap_or(0);
             rest = rest.checked_div(size).unwrap_or(0);
             sequence.push(wheel.get(at as usize).copied().unwrap_or(0))?;
+        }
+        Ok(())
+    }
+
+    // Visits every sequence.
+    pub fn each<F: FnMut(&[u8]) -> Result<(), AllocError>>(
+        &self,
+        heap: Global,
+        mut visit: F,
+    ) -> Result<(), AllocError>
+        requires { (f : _) (sequence : _) → F.pre f sequence }
+    {
+        let mut sequence = Vec::new(heap);
+        for number in 0..self.count() {
+            self.show(number, &mut sequence)?;
+            visit(sequence.as_slice())?;
         }
         Ok(())
     }

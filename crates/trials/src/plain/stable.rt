@@ -1,43 +1,29 @@
 // The largest masks from which no rule takes anything, found by trying all masks below given ones.
 use crate::plain::rounds;
 use crate::plain::rounds::Masks;
-use crate::problem::{Problem, RULES};
+use crate::problem::{CELLS, Problem, RULES};
 use std::alloc::{AllocError, Global};
 
-// A value of a cell's mask or of a rule's tally.
+// Where a value is open: in a cell's mask, or in a rule's tally.
 #[derive(Clone, Copy)]
-enum Value {
-    Duty { cell: usize, duty: u32 },
-    Count { rule: usize, count: u32 },
+enum Place {
+    Cell(usize),
+    Tally(usize),
 }
 
-// The duties of one cell that are open.
-fn add_duties(values: &mut Vec<Value>, cell: usize, mask: u16) -> Result<(), AllocError> {
-    for duty in 0..16u32 {
-        if (mask >> duty) & 1 == 1 {
-            values.push(Value::Duty { cell, duty })?;
-        }
+// A value that is open somewhere: a duty of a cell, or a count of a tally.
+#[derive(Clone, Copy)]
+struct Value {
+    place: Place,
+    member: u32,
+}
+
+// Adds the values that are open at a place.
+fn add_values(values: &mut Vec<Value>, place: Place, mask: u64) -> Result<(), AllocError> {
+    for member in (0..64u32).filter(|member| (mask >> *member) & 1 == 1) {
+        values.push(Value { place, member })?;
     }
     Ok(())
-}
-
-// The counts of one rule that are open.
-fn add_counts(values: &mut Vec<Value>, rule: usize, tally: u64) -> Result<(), AllocError> {
-    for count in 0..64u32 {
-        if (tally >> count) & 1 == 1 {
-            values.push(Value::Count { rule, count })?;
-        }
-    }
-    Ok(())
-}
-
-// Every value of the first cells, so many.
-fn cell_values(heap: Global, cells: usize, masks: &Masks) -> Result<Vec<Value>, AllocError> {
-    let mut values = Vec::new(heap);
-    for cell in 0..cells {
-        add_duties(&mut values, cell, masks.cell(cell))?;
-    }
-    Ok(values)
 }
 
 // Every value of the first cells, so many, and of every rule.
@@ -47,9 +33,12 @@ fn values_of(
     cells: usize,
     masks: &Masks,
 ) -> Result<Vec<Value>, AllocError> {
-    let mut values = cell_values(heap, cells, masks)?;
-    for rule in 0..problem.rules.len() {
-        add_counts(&mut values, rule, masks.tally(rule))?;
+    let mut values = Vec::new(heap);
+    for (cell, mask) in masks.cells.iter().enumerate().take(cells) {
+        add_values(&mut values, Place::Cell(cell), u64::from(*mask))?;
+    }
+    for (rule, tally) in masks.tallies.iter().enumerate().take(problem.rules.len()) {
+        add_values(&mut values, Place::Tally(rule), *tally)?;
     }
     Ok(values)
 }
@@ -57,11 +46,8 @@ fn values_of(
 // Masks with nothing open in the first cells and in the tallies.
 fn emptied(cells: usize, within: &Masks) -> Masks {
     let mut masks = *within;
-    let nothing = [0; RULES];
-    masks.tallies = nothing;
-    for mask in masks.cells.iter_mut().take(cells) {
-        *mask = 0;
-    }
+    masks.tallies = [0; RULES];
+    masks.cells[..cells.min(CELLS)].fill(0);
     masks
 }
 
@@ -70,12 +56,11 @@ fn chosen(values: &[Value], choice: u64, cells: usize, within: &Masks) -> Masks 
     let mut masks = emptied(cells, within);
     for (i, value) in values.iter().enumerate() {
         if i < 64 && (choice >> i) & 1 == 1 {
-            match *value {
-                Value::Duty { cell, duty } => {
-                    masks.set_cell(cell, masks.cell(cell) | 1 << (duty % 16));
-                }
-                Value::Count { rule, count } => {
-                    masks.set_tally(rule, masks.tally(rule) | 1 << (count % 64));
+            let member = value.member;
+            match value.place {
+                Place::Cell(cell) => masks.set_cell(cell, masks.cell(cell) | 1 << (member % 16)),
+                Place::Tally(rule) => {
+                    masks.set_tally(rule, masks.tally(rule) | 1 << (member % 64));
                 }
             }
         }
