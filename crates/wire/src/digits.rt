@@ -21,24 +21,6 @@ pub struct FrameBytes {
     bytes: ArrayVec<u8, ROOM>,
 }
 
-impl FrameBytes {
-    // No bytes yet.
-    pub fn new() -> FrameBytes
-        ensures { result.bytes.items ≡ [] }
-    {
-        FrameBytes {
-            bytes: ArrayVec::new(),
-        }
-    }
-
-    // The bytes that were decoded.
-    pub fn bytes(&self) -> &[u8]
-        ensures { result.now ≡ self.now.bytes.items }
-    {
-        self.bytes.as_slice()
-    }
-}
-
 // What a character is worth, if it is a digit.
 fn value(character: u8) -> Option<u8>
     ensures { MatchOption result (is_digit character ≡ false) (λ v. (is_digit character ≡ true) × (v ≡ worth character) × (v < 16)) }
@@ -58,35 +40,62 @@ fn first_wrong(text: &[u8]) -> Option<usize>
         .position(|character| value(*character).is_none())
 }
 
-// The bytes that digits spell.
-fn spell(text: &[u8]) -> FrameBytes
-    requires few { length text.now ≤ 516 }
-    requires digits { AllDigits text.now }
-    ensures { result.bytes.items ≡ bytes_of text.now }
-{
-    let mut bytes = ArrayVec::new();
-    let (pairs, _left_over) = text.as_chunks::<2>();
-    for [high, low] in pairs {
-        let high = value(*high).unwrap_or(0);
-        let low = value(*low).unwrap_or(0);
-        bytes.push(16 * high + low);
+impl FrameBytes {
+    // No bytes yet.
+    pub fn new() -> FrameBytes
+        ensures { result.bytes.items ≡ [] }
+    {
+        FrameBytes {
+            bytes: ArrayVec::new(),
+        }
     }
-    FrameBytes { bytes }
+
+    // The bytes that were decoded.
+    pub fn bytes(&self) -> &[u8]
+        ensures { result.now ≡ self.now.bytes.items }
+    {
+        self.bytes.as_slice()
+    }
+
+    // Puts the bytes that digits spell in place of what was there.
+    fn spell(&mut self, text: &[u8])
+        requires few { length text.now ≤ 516 }
+        requires digits { AllDigits text.now }
+        ensures { self.new.bytes.items ≡ bytes_of text.now }
+    {
+        self.bytes.clear();
+        let (pairs, _left_over) = text.as_chunks::<2>();
+        for [high, low] in pairs {
+            let high = value(*high).unwrap_or(0);
+            let low = value(*low).unwrap_or(0);
+            self.bytes.push(16 * high + low);
+        }
+    }
+
+    // Puts the bytes that a line spells in place of what was there.
+    pub fn decode(&mut self, line: Line) -> Result<(), LineFault>
+        ensures { MatchResult result (λ _. Spelt line.entry.text.now line.entry.ended × (self.new.bytes.items ≡ bytes_of line.entry.text.now)) (TextFault line.entry.text.now line.entry.ended) }
+    {
+        let text = line.text;
+        if !line.ended || text.is_empty() || text.len() > LONGEST {
+            return Err(LineFault::Line);
+        }
+        if let Some(place) = first_wrong(text) {
+            return Err(LineFault::Digit { place });
+        }
+        if text.len() % 2 == 1 {
+            return Err(LineFault::Digit { place: text.len() });
+        }
+        self.spell(text);
+        Ok(())
+    }
 }
 
 // The bytes that a line spells.
 pub fn decode(line: Line) -> Result<FrameBytes, LineFault>
     ensures { MatchResult result (λ b. Spelt line.entry.text.now line.entry.ended × (b.bytes.items ≡ bytes_of line.entry.text.now)) (TextFault line.entry.text.now line.entry.ended) }
 {
-    let text = line.text;
-    if !line.ended || text.is_empty() || text.len() > LONGEST {
-        return Err(LineFault::Line);
-    }
-    if let Some(place) = first_wrong(text) {
-        return Err(LineFault::Digit { place });
-    }
-    if text.len() % 2 == 1 {
-        return Err(LineFault::Digit { place: text.len() });
-    }
-    Ok(spell(text))
+    let mut bytes = FrameBytes::new();
+    bytes.decode(line)?;
+    Ok(bytes)
 }

@@ -7,7 +7,7 @@ ghost use Rattle.std.specs.Prelude.{◌≡◌, MatchResult};
 ghost use Rattle.wire.specs.Digits.{Spelt, bytes_of};
 ghost use Rattle.wire.specs.Reading.{Reads, Refused, LineRefused, numbered};
 
-use crate::digits::{FrameBytes, decode};
+use crate::digits::FrameBytes;
 use crate::frame::{Frame, parse};
 use crate::kind::Kind;
 use crate::lines::Line;
@@ -35,7 +35,7 @@ pub fn read_line<'a>(
 ) -> Result<(Phase, Frame<'a>), LineFault>
     ensures { MatchResult result (λ x. Spelt line.entry.text.now line.entry.ended × Reads phase (bytes_of line.entry.text.now) x.0 x.1) (LineRefused phase line.entry.text.now line.entry.ended) }
 {
-    *room = decode(line)?;
+    room.decode(line)?;
     let read = read_frame(phase, room.bytes())?;
     Ok(read)
 }

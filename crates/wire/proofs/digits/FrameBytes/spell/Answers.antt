@@ -2,7 +2,7 @@ use Rattle.std.proofs.Common.{length, ◌/◌, ap, arith}
 use Rattle.std.proofs.lemmas.List.FromFn.{length-map-range_with_len, map-range_with_len_more}
 use Rattle.wire.specs.Digits.{byte_at}
 use Rattle.wire.proofs.Pairs.{pair_spells}
-use Rattle.wire.proofs.digits.spell.Goals as goal
+use Rattle.wire.proofs.digits.FrameBytes.spell.Goals as goal
 
 pub push-requires : goal.push-requires
 push-requires c = (omega arith, omega (arith, ap length c.loop-high.invariant, length-map-range_with_len (byte_at c.args.text.now) 0 c.loop-high.high-index))

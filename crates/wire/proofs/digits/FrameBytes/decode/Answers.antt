@@ -1,7 +1,7 @@
 use Rattle.std.proofs.Common.{inl, inr, arith, rules}
 use Rattle.wire.specs.Digits.{no_line, no_digit, left_over}
-use Rattle.wire.proofs.digits.decode.Goals as goal
-use Rattle.wire.proofs.digits.decode.Goals.{then-not-line-via-then-not-line, then-not-line-via-else-not-line+then-is_empty, then-not-line-via-else-not-line+else-is_empty+then-text-gt-LONGEST}
+use Rattle.wire.proofs.digits.FrameBytes.decode.Goals as goal
+use Rattle.wire.proofs.digits.FrameBytes.decode.Goals.{then-not-line-via-then-not-line, then-not-line-via-else-not-line+then-is_empty, then-not-line-via-else-not-line+else-is_empty+then-text-gt-LONGEST}
 
 pub returns-then-not-line : goal.returns-then-not-line
 returns-then-not-line c = no_line
