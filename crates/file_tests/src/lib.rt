@@ -32,10 +32,7 @@ mod tests {
 
     // Why a file cannot begin so.
     fn opening(heap: Global, text: &[u8]) -> Option<Report> {
-        match read::open(heap, line(text)) {
-            Ok(_) => None,
-            Err(fault) => Some(report(fault)),
-        }
+        read::open(heap, line(text)).err().map(report)
     }
 
     // Why a line before the start is refused.
