@@ -9,6 +9,7 @@ ghost use Rattle.automata.specs.Kinds.{GoodTable};
 use arrayvec::ArrayVec;
 use automata::Table;
 use refusals::PostFault;
+use std::alloc::AllocError;
 
 // As many bytes as a table of sixteen states has.
 const MOST_BYTES: usize = 256;
@@ -18,6 +19,17 @@ pub struct KeptTable {
     states: u8,
     bytes: ArrayVec<u8, MOST_BYTES>,
     ghost good: { GoodTable states bytes.items },
+}
+
+// The same table; a copy needs no memory.
+impl Clone for KeptTable {
+    ghost is_clone = { λ v w. w ≡ v };
+
+    ghost is_infallible = { λ _. Unit };
+
+    fn clone(&self) -> Result<KeptTable, AllocError> {
+        Ok(KeptTable::copy_of(self.states, self.bytes.as_slice()).unwrap())
+    }
 }
 
 impl KeptTable {
