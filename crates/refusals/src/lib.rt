@@ -246,6 +246,7 @@ impl<F, T: Drop> From<AllocFailed<T>> for Stopped<F> {
     }
 }
 
+// (One for each fault: an impl for every F would overlap with that of AllocError.)
 impl From<PostFault> for PostError {
     ghost from_gives = { λ fault r. r ≡ Fault fault };
 
@@ -278,6 +279,7 @@ impl From<LineFault> for LineError {
     }
 }
 
+// (Two matches of one shape: a `map` that takes a closure would be no plainer.)
 impl From<PostError> for FrameError {
     ghost from_gives = { λ e r. r ≡ frame_error e };
 
