@@ -8,8 +8,7 @@
 // Each kind proves the laws of an automaton, and each step is the one that the meaning gives.
 #![tactic(auto)]
 
-ghost use Rattle.std.specs.Prelude.{◌≡◌, ℕ, ◌-◌, ◌/◌, ◌^◌, ◌<◌, ◌≤◌, min, length, IfOk, MatchOption, MatchResult, slice_index};
-ghost use Rattle.refusals.specs.First.{First};
+ghost use Rattle.std.specs.Prelude.{◌≡◌, ℕ, ◌-◌, ◌^◌, ◌<◌, min, IfOk, MatchResult, slice_index};
 ghost use Rattle.automata.specs.Automaton.{Automaton, Lawful};
 ghost use Rattle.automata.specs.Reading.{total};
 ghost use Rattle.automata.specs.Kinds.{among, mapped, table, GoodTable, Reads};
