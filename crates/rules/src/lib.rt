@@ -6,7 +6,6 @@
 
 ghost use Rattle.std.specs.Prelude.{◌≡◌, ℕ, ◌^◌, ◌<◌, ◌≤◌, min, length, MatchOption, MatchResult, slice_index};
 ghost use Rattle.refusals.specs.declared.PostFault.TheVariants.{EmptyTally};
-ghost use Rattle.refusals.specs.First.{First};
 ghost use Rattle.refusals.specs.Posting.{Refusing};
 ghost use Rattle.rules.specs.Rows.{GoodRow, Different, RowFault, StoodBefore};
 ghost use Rattle.rules.specs.Senses.{sense_number, SenseFault};
