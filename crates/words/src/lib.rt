@@ -38,6 +38,7 @@ fn check(duties: &[u8]) -> Result<(), PostFault>
             place: duties.len().min(16),
         });
     }
+    // (The same test as automata's `check_classes`, of a length that is not fixed.)
     match duties.iter().position(|duty| *duty > 15) {
         Some(place) => Err(PostFault::Duty { place }),
         None => Ok(()),
@@ -88,6 +89,7 @@ fn search(word: &[u8]) -> [u8; 256]
     ensures { (q d : ℕ) → (q < length word.now) × (d < 16) → slice_index result (16 * q + d) ≡ (counting word.now).next q d }
 {
     let mut next = [0; 256];
+    // (One loop over the entries: a loop over a state's 16 within one over the states is two to prove, and no plainer.)
     for (k, after) in next[..16 * word.len()].iter_mut().enumerate() {
         *after = next_state(word, k / 16, (k % 16) as u8) as u8;
     }
