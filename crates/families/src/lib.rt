@@ -8,7 +8,7 @@
 // there are no figures, and the workspace is left alone.
 #![tactic(auto)]
 
-ghost use Rattle.std.specs.Prelude.{◌≡◌, ℕ, ◌+◌, ◌<◌, ◌≤◌, ◌⊎◌, length, MatchResult};
+ghost use Rattle.std.specs.Prelude.{◌≡◌, ◌+◌, ◌<◌, ◌≤◌, ◌⊎◌, length, MatchResult};
 ghost use Rattle.masks.specs.Members.{lost};
 ghost use Rattle.refusals.specs.declared.PostFault.TheVariants.{TooManyRules};
 ghost use Rattle.families.specs.Masks.{values_lost};
@@ -58,7 +58,7 @@ pub trait Family {
         ensures left_alone { ((meaning self.now).rules ≤ rule) ⊎ (length workspace.old < workspace_needed) → workspace.new ≡ workspace.old };
 }
 
-// Whether two families can be joined: a pair is a family, and has no more rules than one.
+// Whether two families can be joined: together they may have as many rules as one family at most.
 pub fn check_pair<F: Family, G: Family>(first: &F, second: &G) -> Result<(), PostFault>
     ensures { MatchResult result (λ _. (F.Family.meaning first.now).rules + (G.Family.meaning second.now).rules ≤ most_rules) (λ e. (e ≡ TooManyRules) × (most_rules < (F.Family.meaning first.now).rules + (G.Family.meaning second.now).rules)) }
 {
@@ -68,8 +68,8 @@ pub fn check_pair<F: Family, G: Family>(first: &F, second: &G) -> Result<(), Pos
     Ok(())
 }
 
-// Two families as one, the first's rules numbered first. Made past `check_pair`, it has as many of the
-// first as a family has at most.
+// Two families as one, the first's rules numbered first. Where they have more rules than `check_pair`
+// allows, it has the first `MOST_RULES` of them.
 #[derive(Drop)]
 pub struct Pair<F, G> {
     first: F,
@@ -84,7 +84,7 @@ impl<F, G> Pair<F, G> {
     }
 }
 
-// Which part of a pair has a rule, and its number there.
+// The part that is asked for a rule, and the rule's number there; neither, from `MOST_RULES` on.
 enum Part {
     First(usize),
     Second(usize),
@@ -92,6 +92,8 @@ enum Part {
 }
 
 impl<F: Family, G: Family> Pair<F, G> {
+    // A number past both families' rules is told as the second's, which does nothing for it; from
+    // `MOST_RULES` on as neither's.
     fn part(&self, rule: usize) -> Part
         ensures { PartOf (F.Family.meaning self.now.first) rule result }
     {
