@@ -8,7 +8,7 @@
 // count if it is in that of some end state. The answer is the number of values that went.
 #![tactic(auto)]
 
-ghost use Rattle.std.specs.Prelude.{◌≡◌, ℕ, ◌+◌, ◌-◌, ◌*◌, ◌^◌, ◌<◌, ◌≤◌, min, false, length, take, if◌then◌else◌, Decides, MatchResult, nat_eq, slice_index};
+ghost use Rattle.std.specs.Prelude.{◌≡◌, ℕ, ◌+◌, ◌-◌, ◌*◌, ◌^◌, ◌<◌, ◌≤◌, min, false, length, if◌then◌else◌, Decides, MatchResult, nat_eq, slice_index};
 ghost use Rattle.masks.specs.Bit.{In, has};
 ghost use Rattle.masks.specs.Members.{lost};
 ghost use Rattle.families.specs.Masks.{values_lost};
