@@ -1,7 +1,7 @@
 -- What a family answers by whether it has the rule, and whether the workspace suffices.
-use Rattle.std.proofs.Common.{◌≡◌, ℕ, ◌+◌, ◌<◌, ◌≤◌, Bool, true, false, cond, ltb, leb, List, map, length, get_or, None, Ok, Err, Result, MatchResult, vec_items, sym, refl, ap, ◌∙◌, subst, ap₂, arith}
+use Rattle.std.proofs.Common.{◌≡◌, ℕ, zero, suc, ◌+◌, ◌<◌, ◌≤◌, ◌⊎◌, inl, inr, [], ◌∷◌, Bool, true, false, cond, ltb, leb, List, map, length, get_or, None, Ok, Err, Result, MatchResult, vec_items, sym, refl, ap, ◌∙◌, subst, ap₂, arith}
 use Rattle.std.proofs.lemmas.List.{get_or-map, get_or_past, length-map}
-use Rattle.std.proofs.lemmas.Bool.{lt-ltb, le-ltb, le-leb, lt-leb}
+use Rattle.std.proofs.lemmas.Bool.{false≢true, lt-ltb, le-ltb, le-leb, lt-leb}
 use Rattle.std.specs.Result.{result_unwrap_or}
 use Rattle.refusals.specs.declared.PlanFault.{PlanFault}
 use Rattle.automata.specs.Automaton.{Automaton}
@@ -13,9 +13,12 @@ use Rattle.sweeps.specs.Figures.{figures_of}
 use Rattle.families.specs.Meaning as families
 use Rattle.families.specs.Meaning.{Meaning, Left, workspace_needed, when_able, ran, figured, start_of}
 use Rattle.rules.specs.declared.Rule.{Rule}
+use Rattle.rules.specs.declared.Sense.{Sense}
+use Rattle.rules.specs.declared.Sense.TheVariants.{AtMost, AtLeast, Exactly}
 use Rattle.runs.specs.Run.{along, leaves, RuleRan, NotRun}
 use Rattle.counting.specs.Family.{family_of, rule_of, one_sided, one_sided_at}
-use Rattle.counting.specs.FamilyLaws.{rule_at}
+use Rattle.counting.specs.FamilyLaws.{rule_at, rule_keeps_only_used}
+use Rattle.counting.specs.Used.{KeepsOnlyUsed}
 
 -- a rule of the family, on enough workspace
 pub able : {X : Type 0} (m : Meaning) (w r : ℕ) (x y : X) → r < m.rules → workspace_needed ≤ w → when_able m w r x y ≡ x
@@ -42,6 +45,17 @@ none_lost c t d u p q =
 -- past the last rule there is none of a one-sided sense
 pub past_sense : (rules : List Rule) (r : ℕ) → length rules ≤ r → one_sided_at rules r ≡ false
 past_sense rules r h = get_or_past (map (λ (x : Rule). one_sided x.sense) rules) r false (omega (arith, length-map rules (λ (x : Rule). one_sided x.sense)))
+
+-- a rule of a one-sided sense keeps only what is used
+pub one_sided_keeps : (a : Automaton) (rules : List Rule) (r : ℕ) → one_sided_at rules r ≡ true → KeepsOnlyUsed ((family_of a rules).rule r)
+one_sided_keeps a [] r e = absurd (false≢true e)
+one_sided_keeps a (x ∷ xs) zero e = rule_keeps_only_used a x (one_way x.sense e)
+  where
+    one_way : (s : Sense) → one_sided s ≡ true → (s ≡ AtMost) ⊎ (s ≡ AtLeast)
+    one_way AtMost e = inl refl
+    one_way AtLeast e = inr refl
+    one_way Exactly e = absurd (false≢true e)
+one_sided_keeps a (x ∷ xs) (suc r) e = one_sided_keeps a xs r e
 
 -- the rule that a look at number r found
 module _ (a : Automaton) (rules found : List Rule) (at : found ≡ rules) (r : ℕ) (x : Rule) (h : r < length found) (e : x ≡ get_or found r x) where

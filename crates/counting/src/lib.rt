@@ -8,7 +8,7 @@
 // in pairs.
 #![tactic(auto)]
 
-ghost use Rattle.std.specs.Prelude.{◌≡◌, ℕ, ◌+◌, ◌<◌, ◌≤◌, min, true, [], length, None, MatchResult};
+ghost use Rattle.std.specs.Prelude.{◌≡◌, ◌+◌, ◌<◌, ◌≤◌, min, true, [], length, None, MatchResult};
 ghost use Rattle.families.specs.Meaning.{workspace_needed, most_rules, pair as paired};
 ghost use Rattle.sweeps.specs.Figures.{figures_of};
 ghost use Rattle.runs.specs.Run.{along};
@@ -74,13 +74,9 @@ impl<C> Counting<C> {
         ensures tells { result ≡ one_sided_at self.now.rules.items rule }
         ensures keeps { result ≡ true → KeepsOnlyUsed ((family_of (C.CounterAutomaton.meaning self.now.automaton) (self.now.rules.items)).rule rule) }
     {
-        match self.rules.get(rule) {
-            Some(rule) => match rule.sense() {
-                Sense::AtMost | Sense::AtLeast => true,
-                Sense::Exactly => false,
-            },
-            None => false,
-        }
+        self.rules
+            .get(rule)
+            .is_some_and(|rule| rule.sense() != Sense::Exactly)
     }
 }
 
