@@ -117,6 +117,7 @@ impl<C: CounterAutomaton> Family for Counting<C> {
         tally: &mut u64,
         workspace: &mut [u64],
     ) -> u32 {
+        // (A closure given to `map_or` would borrow the cells, the tally and the workspace, and is harder to prove.)
         let Some(rule) = self.rules.get(rule) else {
             return 0;
         };
