@@ -1,5 +1,5 @@
 -- One run of a rule on the masks of a plan.
-use Rattle.std.proofs.Common.{◌≡◌, ℕ, ◌+◌, ◌<◌, ◌≤◌, length, get_or, set, sym, subst, ⊎_elim, arith, get_or-set_other}
+use Rattle.std.proofs.Common.{◌≡◌, ℕ, ◌+◌, ◌<◌, ◌≤◌, length, get_or, set, sym, ◌∙◌, subst, ⊎_elim, arith, get_or-set_other}
 use Rattle.std.proofs.lemmas.Bool.{cases_eq}
 use Rattle.masks.specs.Members.{members, lost}
 use Rattle.masks.proofs.Counting.{kept_and_lost}
@@ -57,6 +57,11 @@ module _ (m : Meaning) (law : Lawful m) where
   -- a run that takes nothing changes nothing
   pub run_same : (r : ℕ) (s : Masks) → r < m.rules → Sized s → taken m r s ≡ 0 → run m r s ≡ s
   run_same r s h z e = inside_same (run m r s) s z (run_inside r s h z) (omega (arith, run_room r s h z))
+
+  -- nor does it leave a cell empty that was not
+  pub cells_kept : (r : ℕ) (s t : Masks) (n : ℕ) → r < m.rules → Sized s → t ≡ run m r s → n ≡ taken m r s → n ≡ 0
+      → ((j : ℕ) → j < 192 → 0 < get_or s.cells j 0) → (j : ℕ) → j < 192 → 0 < get_or t.cells j 0
+  cells_kept r s t n h z e o a full = subst (λ (x : Masks). (j : ℕ) → j < 192 → 0 < get_or x.cells j 0) (sym (e ∙ run_same r s h z (sym o ∙ a))) full
 
   -- masks that no rule changes stay inside
   pub run_above : (r : ℕ) (s u : Masks) → r < m.rules → Sized s → Stable m u → Inside u s → Inside u (run m r s)

@@ -17,7 +17,7 @@ ghost use Rattle.settling.specs.Told.{Told, NotSettled, place_of};
 use families::{Family, MOST_RULES, WORKSPACE};
 use refusals::PlanFault;
 
-// The masks of all cells and of all tallies.
+// The masks of all cells and of all tallies. Laid out as C has it, since the benchmark's exports lend it.
 #[derive(Clone, Copy, Default)]
 #[repr(C)]
 pub struct Snapshot {
@@ -75,20 +75,7 @@ fn empty_spot(masks: &Snapshot, rule: usize) -> Option<Spot>
         .or(empty_tally(masks, rule))
 }
 
-// The same; where every cell is known to have something, only the tally is looked at.
-fn spot_left(masks: &Snapshot, rule: usize, full: bool) -> Option<Spot>
-    requires rule { rule < 72 }
-    requires full { full ≡ true → (j : ℕ) → j < 192 → 0 < slice_index masks.now.cells j }
-    ensures { MatchOption result (Full (of masks.now) rule) (λ p. Names (of masks.now) rule (place_of p)) }
-{
-    if full {
-        empty_tally(masks, rule)
-    } else {
-        empty_spot(masks, rule)
-    }
-}
-
-// A fact for the proof, with nothing to run: masks are as wide as their types.
+// Runs nothing: a proof knows the widths of what a lent slice holds, but not of the arrays of a lent struct.
 fn note_widths(cells: &[u16], tallies: &[u64])
     ensures cells { (i : ℕ) → slice_index cells.now i < 2 ^ 16 }
     ensures tallies { (r : ℕ) → slice_index tallies.now r < 2 ^ 64 }
@@ -124,7 +111,12 @@ pub fn settle<F: Family>(
             let taken = run_rule(family, rule, masks, workspace);
             runs += 1;
             removed += taken;
-            if let Some(spot) = spot_left(masks, rule, runs > 1 && taken == 0) {
+            let emptied = if runs > 1 && taken == 0 {
+                empty_tally(masks, rule)
+            } else {
+                empty_spot(masks, rule)
+            };
+            if let Some(spot) = emptied {
                 let work = Work { runs, removed };
                 break 'rounds Err(Failure { rule, spot, work });
             }

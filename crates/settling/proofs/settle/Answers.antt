@@ -1,15 +1,16 @@
-use Rattle.std.proofs.Common.{◌≡◌, ◌+◌, ◌-◌, ◌*◌, ◌<◌, ◌≤◌, get_or, sym, refl, ap, ◌∙◌, subst, mul-le-mul_left, mul-add, arith}
+use Rattle.std.proofs.Common.{◌≡◌, Option, MatchOption, ◌+◌, ◌-◌, ◌*◌, ◌<◌, ◌≤◌, sym, refl, ap, subst, mul-le-mul_left, mul-add, arith}
 use Rattle.std.proofs.lemmas.Nat.{mul-le}
-use Rattle.std.proofs.lemmas.Bool.{eqb-true, ltb-true}
-use Rattle.settling.specs.Masks.{Masks, of, Sized}
-use Rattle.settling.specs.Rounds.{run, taken, fails, well, Settles}
+use Rattle.settling.specs.Masks.{of, Sized}
+use Rattle.settling.specs.Rounds.{Names, Full, run, taken, fails, well, Settles}
 use Rattle.settling.specs.Told.{place_of}
+use Rattle.settling.specs.declared.Spot.{Spot}
+use Rattle.settling.proofs.Spots.{tally_named}
 use Rattle.settling.proofs.Order.{room, room_few}
-use Rattle.settling.proofs.Runs.{run_room, run_sized, run_same}
+use Rattle.settling.proofs.Runs.{run_room, run_sized, cells_kept}
 use Rattle.settling.proofs.Rounds.{settles_outcome}
 use Rattle.settling.proofs.Halfway.{recount, carries_rule, carries_empty, carries_end, carries_round, carries_join}
 use Rattle.settling.proofs.settle.Goals as goal
-use Rattle.settling.proofs.settle.Goals.{then-runs-gt1, else-runs-gt1}
+use Rattle.settling.proofs.settle.Goals.{then-runs-gt1+then-taken-eq0, else-runs-gt1}
 
 pub rounds-init : goal.rounds-init
 rounds-init g c =
@@ -47,23 +48,15 @@ overflow_add-removed g c =
     room_few (of c.args.masks.now) c.rounds.invariant.5 in
     omega (arith, top, sum, c.rounds.invariant.2, c.loop-rule.invariant.3, c.run_rule-taken.ensures.removed)
 
-pub spot_left-requires : goal.spot_left-requires
-spot_left-requires g c =
-    let m = g.F.Family.meaning c.args.family.now in
+pub empty_tally-emptied-requires : goal.empty_tally-emptied-requires
+empty_tally-emptied-requires g c =
     let law = g.F.Family.lawful c.args.family.now in
-    let r = c.loop-rule.rule in
-    let s = of c.loop-rule.masks in
-    let h : r < m.rules = omega (arith, c.loop-rule-test.true, c.rule_count-count.ensures) in
-    record {
-      rule = omega (arith, h, law.few);
-      full = λ e j l. elim c.if-runs-gt1.branch [
-        | then-runs-gt1 w ↦
-            let none : taken m r s ≡ 0 = sym c.run_rule-taken.ensures.removed ∙ eqb-true c.run_rule-taken.result 0 (sym w.spot_left-is ∙ e) in
-            let same : of c.run_rule-taken.new.masks ≡ s = c.run_rule-taken.ensures.after ∙ run_same m law r s h c.loop-rule.invariant.4 none in
-            subst (λ (x : Masks). 0 < get_or x.cells j 0) (sym same) (c.loop-rule.invariant.5 (omega (arith, w.if-runs-gt1.true)) j l)
-        | else-runs-gt1 w ↦ let more : 1 < c.loop-rule.runs + 1 = ltb-true 1 (c.loop-rule.runs + 1) (sym w.spot_left-is ∙ e) in absurd (omega (arith, more, w.if-runs-gt1.false))
-      ];
-    }
+    omega (arith, c.loop-rule-test.true, c.rule_count-count.ensures, law.few)
+
+pub empty_spot-emptied-requires : goal.empty_spot-emptied-requires
+empty_spot-emptied-requires g c =
+    let law = g.F.Family.lawful c.args.family.now in
+    omega (arith, c.loop-rule-test.true, c.rule_count-count.ensures, law.few)
 
 pub loop-rule-preserved : goal.loop-rule-preserved
 loop-rule-preserved g c =
@@ -73,6 +66,14 @@ loop-rule-preserved g c =
     let s = of c.loop-rule.masks in
     let t = of c.run_rule-taken.new.masks in
     let h : r < m.rules = omega (arith, c.loop-rule-test.true, c.rule_count-count.ensures) in
+    let found : MatchOption c.if-runs-gt1.emptied (Full t r) (λ p. Names t r (place_of p)) =
+    elim c.if-runs-gt1.branch [
+      | then-runs-gt1+then-taken-eq0 w ↦
+          let all = cells_kept m law r s t c.run_rule-taken.result h c.loop-rule.invariant.4 c.run_rule-taken.ensures.after c.run_rule-taken.ensures.removed w.if-taken-eq0.true (c.loop-rule.invariant.5 (omega (arith, w.if-runs-gt1.true))) in
+          rw w.emptied-is (tally_named t r w.empty_tally-emptied.result all w.empty_tally-emptied.ensures)
+      | else-runs-gt1 w ↦ rw w.emptied-is w.empty_spot-emptied.ensures
+    ] in
+    let full : Full t r = subst (λ (o : Option Spot). MatchOption o (Full t r) (λ p. Names t r (place_of p))) c.in_default.is found in
     let after : t ≡ run m r s = c.run_rule-taken.ensures.after in
     let gone : c.run_rule-taken.result ≡ taken m r s = c.run_rule-taken.ensures.removed in
     let same : room t ≡ room (run m r s) = ap room after in
@@ -80,12 +81,12 @@ loop-rule-preserved g c =
     let up : c.rounds.removed ≤ c.loop-rule.removed = c.loop-rule.invariant.1 in
     let d = c.loop-rule.removed - c.rounds.removed in (
       carries_rule m r d s (of c.rounds.masks) r d c.loop-rule.invariant.0
-          t c.run_rule-taken.result _ _ h after gone c.in_default.ensures (omega (arith, up)) (omega (arith, up)),
+          t c.run_rule-taken.result _ _ h after gone full (omega (arith, up)) (omega (arith, up)),
       omega (arith, up),
       omega (arith, c.loop-rule.invariant.2),
       omega (arith, same, sum, gone, c.loop-rule.invariant.3),
       subst Sized (sym after) (run_sized m law r s h c.loop-rule.invariant.4),
-      λ _. c.in_default.ensures.cells,
+      λ _. full.cells,
     )
 
 pub rounds-preserved : goal.rounds-preserved
@@ -123,10 +124,18 @@ returns-in-Some g c =
     let d = c.loop-rule.removed - c.rounds.removed in
     let up : c.rounds.removed ≤ c.loop-rule.removed = c.loop-rule.invariant.1 in
     let h : r < m.rules = omega (arith, c.loop-rule-test.true, c.rule_count-count.ensures) in
+    let found : MatchOption c.if-runs-gt1.emptied (Full t r) (λ p. Names t r (place_of p)) =
+    elim c.if-runs-gt1.branch [
+      | then-runs-gt1+then-taken-eq0 w ↦
+          let all = cells_kept m law r s t c.run_rule-taken.result h c.loop-rule.invariant.4 c.run_rule-taken.ensures.after c.run_rule-taken.ensures.removed w.if-taken-eq0.true (c.loop-rule.invariant.5 (omega (arith, w.if-runs-gt1.true))) in
+          rw w.emptied-is (tally_named t r w.empty_tally-emptied.result all w.empty_tally-emptied.ensures)
+      | else-runs-gt1 w ↦ rw w.emptied-is w.empty_spot-emptied.ensures
+    ] in
+    let named : Names t r (place_of c.in-Some.spot) = subst (λ (o : Option Spot). MatchOption o (Full t r) (λ p. Names t r (place_of p))) c.in-Some.is found in
     let e = fails r (place_of c.in-Some.spot) in
     let w : Settles m t e 0 0 s1 (r + 1) (d + c.run_rule-taken.result) =
     carries_empty m r d s s1 r d c.loop-rule.invariant.0 t (place_of c.in-Some.spot) c.run_rule-taken.result _ _ h
-    c.run_rule-taken.ensures.after c.run_rule-taken.ensures.removed c.in-Some.ensures refl refl in
+    c.run_rule-taken.ensures.after c.run_rule-taken.ensures.removed named refl refl in
     let v : Settles m t e 0 0 s0 (c.loop-rule.runs + 1) (c.loop-rule.removed + c.run_rule-taken.result) =
     recount (c.rounds.invariant.0 t e _ _ w) refl refl (omega (arith, c.loop-rule.invariant.2)) (omega (arith, up)) in
     (omega arith, record { rounds = v; outcome = λ a. settles_outcome m law c.rounds.invariant.5 a v })
