@@ -3,7 +3,8 @@ ghost use Rattle.std.specs.Prelude.{ℕ, ◌<◌, slice_index};
 
 use arrayvec::ArrayVec;
 use families::Family;
-use settling::{Failure, Snapshot, Work};
+pub use settling::Snapshot;
+use settling::{Failure, Work};
 
 pub mod drafts;
 pub mod levels;
@@ -17,7 +18,7 @@ pub struct Draft {
     ghost some: { (i : ℕ) → i < 192 → 0 < slice_index cells i },
 }
 
-// What plans and rosters both hold: the family, the present masks, and whether settling failed.
+// What plans and rosters both hold: the family, the present masks, and whether settling failed. A void plan still answers: every mask reads as empty.
 #[derive(Drop)]
 struct Held<F: Family> {
     family: F,

@@ -1,5 +1,5 @@
 // Making a draft, and starting a plan from it.
-ghost use Rattle.std.specs.Prelude.{◌≡◌, ℕ, ◌+◌, ◌<◌, ◌≤◌, true, [], length, replicate, MatchResult};
+ghost use Rattle.std.specs.Prelude.{◌≡◌, ℕ, ◌+◌, ◌<◌, ◌≤◌, true, false, [], length, replicate, MatchResult};
 ghost use Rattle.refusals.specs.declared.PlanFault.TheVariants.{Workspace};
 ghost use Rattle.families.specs.Meaning.{workspace_needed};
 ghost use Rattle.settling.specs.Masks.{of};
@@ -35,15 +35,15 @@ fn start_masks<F: Family>(cells: [u16; 192], family: &F) -> Snapshot
 }
 
 // A plan with these masks and no open level.
-fn begun<F: Family>(family: F, masks: Snapshot, void: bool) -> Plan<F>
+fn begun<F: Family>(family: F, masks: Snapshot) -> Plan<F>
     ensures family { result.held.family ≡ family }
-    ensures view { view result ≡ record { now = of masks; below = []; void = void } }
+    ensures view { view result ≡ record { now = of masks; below = []; void = false } }
 {
     Plan {
         held: Held {
             family,
             masks,
-            void,
+            void: false,
         },
         stack: ArrayVec::new(),
     }
@@ -54,7 +54,14 @@ fn void_plan<F: Family>(family: F) -> Plan<F>
     ensures family { result.held.family ≡ family }
     ensures view { view result ≡ voided }
 {
-    begun(family, Snapshot::default(), true)
+    Plan {
+        held: Held {
+            family,
+            masks: Snapshot::default(),
+            void: true,
+        },
+        stack: ArrayVec::new(),
+    }
 }
 
 // Whether a workspace is long enough to start on.
@@ -100,7 +107,7 @@ impl Draft {
         let Draft { cells } = self;
         let mut masks = start_masks(cells, &family);
         match settling::settle(&family, &mut masks, workspace) {
-            Ok(Ok(work)) => (begun(family, masks, false), Start::Settled(work)),
+            Ok(Ok(work)) => (begun(family, masks), Start::Settled(work)),
             Ok(Err(failure)) => (void_plan(family), Start::Void(failure)),
             Err(_) => (void_plan(family), Start::Short),
         }

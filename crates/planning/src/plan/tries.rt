@@ -45,6 +45,7 @@ impl<F: Family> Held<F> {
     }
 
     // Narrows a cell to what it shares with a given mask, and settles.
+    // Two functions: a cell's mask and a tally differ in width and in the decision that the law speaks of.
     fn try_cell(&mut self, cell: usize, mask: u16, workspace: &mut [u64]) -> Try
         requires cell { cell < 192 }
         requires workspace { workspace_needed ≤ length workspace.old }
