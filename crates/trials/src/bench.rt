@@ -1,5 +1,5 @@
 // What every trial works with.
-use crate::answer::Answer;
+use crate::answer::{Answer, FINE};
 use crate::counts::Counts;
 use crate::dice::Dice;
 use crate::stop::{Stop, What, agree};
@@ -48,11 +48,6 @@ impl Bench {
             return Ok(());
         }
         let kept = self.before.as_slice() == self.workspace.as_slice();
-        agree(
-            call,
-            What::Workspace,
-            Answer::Holds(kept),
-            Answer::Holds(true),
-        )
+        agree(call, What::Workspace, Answer::Holds(kept), FINE)
     }
 }

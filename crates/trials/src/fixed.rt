@@ -1,5 +1,5 @@
 // Fixed cases: the bounds of the kernel, and a failure that is known in full.
-use crate::answer::{Answer, Failure, Layer, Refusal, Work, refused};
+use crate::answer::{Answer, FINE, Failure, Layer, Refusal, Work, refused};
 use crate::bench::Bench;
 use crate::counts::more;
 use crate::kernel;
@@ -143,7 +143,7 @@ fn try_backs(bench: &mut Bench, plan: &mut Plan<Rules>) -> Result<(), Stop> {
 fn try_workspace(bench: &mut Bench) -> Result<(), Stop> {
     let enough = [0; WORKSPACE];
     let fits = check_workspace(&enough).is_ok();
-    expect(bench, 10, Answer::Holds(fits), Answer::Holds(true))?;
+    expect(bench, 10, Answer::Holds(fits), FINE)?;
     let short = judged(check_workspace(&enough[0..WORKSPACE - 1]));
     expect(bench, 11, short, refused(14))
 }
@@ -165,7 +165,7 @@ fn post_refusal(number: u8, place: usize) -> Answer {
 // A row has 1 to 64 cells.
 fn try_rows(bench: &mut Bench) -> Result<(), Stop> {
     let answer = row_answer(bench.heap, 64)?;
-    expect(bench, 12, answer, Answer::Holds(true))?;
+    expect(bench, 12, answer, FINE)?;
     let answer = row_answer(bench.heap, 65)?;
     expect(bench, 13, answer, post_refusal(4, 64))?;
     let answer = row_answer(bench.heap, 0)?;
@@ -194,7 +194,7 @@ fn try_families(bench: &mut Bench) -> Result<(), Stop> {
     let pair = Pair::new(family, full(heap)?);
     let third = full(heap)?;
     let fits = families::check_pair(&pair, &third).is_ok();
-    expect(bench, 16, Answer::Holds(fits), Answer::Holds(true))?;
+    expect(bench, 16, Answer::Holds(fits), FINE)?;
     let four = Pair::new(third, full(heap)?);
     let answer = judged(families::check_pair(&pair, &four));
     expect(bench, 17, answer, post_refusal(15, 0))
@@ -216,7 +216,7 @@ fn try_file(bench: &mut Bench) -> Result<(), Stop> {
     let known = joined(bench.heap, &TEXT)?;
     let text = roster_text(bench.heap, file.as_bytes())?;
     let same = text.as_str() == known.as_str();
-    expect(bench, 18, Answer::Holds(same), Answer::Holds(true))
+    expect(bench, 18, Answer::Holds(same), FINE)
 }
 
 pub fn try_fixed(bench: &mut Bench) -> Result<(), Stop> {

@@ -1,5 +1,5 @@
 // Trials of the lines of drawn files: the frame that a line spells, or why it is refused.
-use crate::answer::Answer;
+use crate::answer::{Answer, FINE};
 use crate::bench::Bench;
 use crate::counts::more;
 use crate::dice::Dice;
@@ -83,7 +83,7 @@ fn read_kernel(
         Ok((next, frame)) => {
             *phase = next;
             spelled(bytes, &frame)?;
-            Ok(Answer::Holds(true))
+            Ok(FINE)
         }
         Err(fault) => Ok(Answer::from(fault)),
     }
@@ -99,7 +99,7 @@ fn read_plain(
     match frames::read_frame(heap, line, stage) {
         Ok(frame) => {
             spell(bytes, frame.kind, frame.body.as_slice(), &[])?;
-            Ok(Answer::Holds(true))
+            Ok(FINE)
         }
         Err(Halt::Fault(refusal)) => Ok(Answer::Refused(refusal)),
         Err(Halt::Memory) => Err(Stop::Memory),
@@ -120,7 +120,7 @@ pub fn try_lines(bench: &mut Bench, scale: Scale) -> Result<(), Stop> {
         let what = What::Line(i.saturating_add(1));
         agree(0, what, kernel, plain)?;
         let same = told.as_slice() == known.as_slice();
-        agree(0, what, Answer::Holds(same), Answer::Holds(true))?;
+        agree(0, what, Answer::Holds(same), FINE)?;
         more(&mut bench.counts.lines);
         if let Answer::Refused(refusal) = plain {
             bench.counts.note_refusal(refusal.number);

@@ -1,6 +1,6 @@
 // Trials of whole plans: every call is made on both implementations, and after it every answer, cell,
 // tally and figure is compared.
-use crate::answer::Answer;
+use crate::answer::{Answer, FINE};
 use crate::bench::Bench;
 use crate::counts::more;
 use crate::dice::Dice;
@@ -256,7 +256,7 @@ impl<'a> Trial<'a> {
         let cells = self.scale.cells as usize;
         let used = fillings::used(bench.heap, self.problem, cells, &within)?;
         let kept = Answer::Holds(used.lie_within(&masks));
-        agree(self.call, What::Fillings, kept, Answer::Holds(true))?;
+        agree(self.call, What::Fillings, kept, FINE)?;
         more(&mut bench.counts.fillings);
         Ok(())
     }
@@ -266,12 +266,12 @@ impl<'a> Trial<'a> {
         let cells = self.scale.cells as usize;
         let used = fillings::used(bench.heap, self.problem, cells, within)?;
         let none = Answer::Holds(used.lie_within(&EMPTY));
-        agree(self.call, What::NoFilling, none, Answer::Holds(true))?;
+        agree(self.call, What::NoFilling, none, FINE)?;
         more(&mut bench.counts.fillings);
         if let Some(largest) = stable::largest(bench.heap, self.problem, cells, within, FEW)? {
             let rules = self.problem.rules.len();
             let empty = Answer::Holds(largest.has_empty(rules));
-            agree(self.call, What::NoMasks, empty, Answer::Holds(true))?;
+            agree(self.call, What::NoMasks, empty, FINE)?;
             more(&mut bench.counts.largest);
         }
         Ok(())
@@ -313,7 +313,7 @@ impl<'a> Trial<'a> {
                 self.call,
             )?;
             let settled = Answer::Holds(matches!(answer, Answer::Settled(_)));
-            agree(self.call, What::BareRun, settled, Answer::Holds(true))?;
+            agree(self.call, What::BareRun, settled, FINE)?;
             more(&mut bench.counts.again);
         }
         let masks = self.log.masks(heap)?;

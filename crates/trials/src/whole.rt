@@ -1,96 +1,99 @@
 // Trials of whole files: what the interpreter prints of a file, beside the plain reading of it.
-use crate::answer::Answer;
+use crate::answer::{Answer, FINE};
 use crate::bench::Bench;
 use crate::counts::more;
 use crate::plain::reading::roster_text;
+use crate::problem::{CELLS, RULES};
 use crate::stop::{Stop, What, agree};
 use interpreter::file::{FilePlan, FileRoster, Told};
 use interpreter::read;
 use posting::drafting::{Drafted, FileDraft};
 use posting::kept::KeptTable;
 use printing::{CellText, Entry, FaultText, MemoryText, RuleText};
-use refusals::{FileFault, LineError};
+use refusals::{FileFault, LineError, LineFault};
 use std::alloc::{AllocError, Global};
+use std::fmt::Display;
 use wire::digits::FrameBytes;
-use wire::lines::LineBuffer;
+use wire::lines::{Line, LineBuffer};
 use wire::order::Phase;
-use wire::reader::{at_line, read_line};
+use wire::reader::read_line;
 
-// The lines of a file, one by one, and what was printed of them.
+// The lines of a file, one by one, and what was printed of them. (The roster program has the like over
+// its standard input and output; this one is apart from it, so that neither hides a fault of the other.)
 #[derive(Drop)]
 struct Desk<'a> {
     heap: Global,
     rest: &'a [u8],
     line: LineBuffer,
-    ended: bool,
     number: u64,
     out: String,
 }
 
 impl<'a> Desk<'a> {
-    // Reads the next line; false where there is none.
-    fn next(&mut self) -> bool {
+    // Reads up to the end of the next line: whether it has a newline.
+    fn fill(&mut self) -> bool {
         self.line.clear();
-        self.number = self.number.saturating_add(1);
         let rest = self.rest;
-        if rest.is_empty() {
-            return false;
+        let end = self.line.extend(rest);
+        self.rest = match end {
+            Some(place) => &rest[place + 1..],
+            None => &[],
+        };
+        end.is_some()
+    }
+
+    // The next line; none where the file is at its end.
+    fn next(&mut self) -> Option<Line<'_>> {
+        let ended = self.fill();
+        self.number = self.number.saturating_add(1);
+        if !ended && self.line.is_empty() {
+            return None;
         }
-        match self.line.extend(rest) {
-            Some(place) => {
-                self.rest = &rest[place + 1..];
-                self.ended = true;
-            }
-            None => {
-                self.rest = &rest[rest.len()..];
-                self.ended = false;
-            }
-        }
-        true
+        Some(self.line.line(ended))
+    }
+
+    // Prints a line.
+    fn print<T: Display>(&mut self, text: &T) -> Result<(), AllocError> {
+        let text = format!(in self.heap; "{text}\n")?;
+        self.out.push_str(text.as_str())
     }
 
     fn tell(&mut self, told: Told) -> Result<(), AllocError> {
-        let entry = Entry {
+        self.print(&Entry {
             line: self.number,
             told,
-        };
-        let text = format!(in self.heap; "{entry}\n")?;
-        self.out.push_str(text.as_str())
+        })
     }
 
-    fn stop(&mut self, fault: FileFault) -> Result<(), AllocError> {
-        let fault = FaultText(fault);
-        let text = format!(in self.heap; "{fault}\n")?;
-        self.out.push_str(text.as_str())
+    // Prints a fault of the line.
+    fn stop(&mut self, fault: LineFault) -> Result<(), AllocError> {
+        let line = self.number;
+        self.print(&FaultText(FileFault { line, fault }))
     }
 
     // The same of a line before the start, for which there may be no memory.
     fn stop_draft(&mut self, error: LineError) -> Result<(), AllocError> {
-        let line = self.number;
         match error {
-            LineError::Fault(fault) => self.stop(FileFault { line, fault }),
-            LineError::Memory => {
-                let text = MemoryText { line };
-                let text = format!(in self.heap; "{text}\n")?;
-                self.out.push_str(text.as_str())
-            }
+            LineError::Fault(fault) => self.stop(fault),
+            LineError::Memory => self.print(&MemoryText { line: self.number }),
         }
     }
 }
 
 // The lines before the start: whether there is one.
 fn draft_all(desk: &mut Desk<'_>, draft: &mut FileDraft) -> Result<bool, AllocError> {
+    let heap = desk.heap;
+    // Nothing bounds how many lines a file has.
     for _ in 0..u64::MAX {
-        if !desk.next() {
-            return Ok(false);
-        }
-        let line = desk.line.line(desk.ended);
-        match read::draft_line(draft, desk.heap, line) {
+        let Some(line) = desk.next() else {
+            break;
+        };
+        match read::draft_line(draft, heap, line) {
             Ok(Drafted::Posted) => {}
             Ok(Drafted::Start) => return Ok(true),
             Err(error) => {
                 desk.stop_draft(error)?;
-                return Ok(false);
+                break;
             }
         }
     }
@@ -103,12 +106,12 @@ fn plan_all(
     plan: &mut FilePlan<'_>,
     workspace: &mut [u64],
 ) -> Result<bool, AllocError> {
+    // Nothing bounds how many lines a file has.
     for _ in 0..u64::MAX {
-        if !desk.next() {
-            return Ok(false);
-        }
-        let line = desk.line.line(desk.ended);
-        match at_line(desk.number, read::plan_line(plan, line, workspace)) {
+        let Some(line) = desk.next() else {
+            break;
+        };
+        match read::plan_line(plan, line, workspace) {
             Ok(told) => {
                 desk.tell(told)?;
                 if let Told::Publish = told {
@@ -117,7 +120,7 @@ fn plan_all(
             }
             Err(fault) => {
                 desk.stop(fault)?;
-                return Ok(false);
+                break;
             }
         }
     }
@@ -129,31 +132,22 @@ fn tell_roster(
     roster: &FileRoster<'_>,
     workspace: &mut [u64],
 ) -> Result<(), AllocError> {
-    for cell in 0..192usize {
-        if let Some(line) = roster.cell(cell) {
-            let text = CellText(line);
-            let text = format!(in desk.heap; "{text}\n")?;
-            desk.out.push_str(text.as_str())?;
-        }
+    for line in (0..CELLS).map_while(|cell| roster.cell(cell)) {
+        desk.print(&CellText(line))?;
     }
-    for rule in 0..72usize {
-        if let Some(line) = roster.rule(rule, workspace) {
-            let text = RuleText(line);
-            let text = format!(in desk.heap; "{text}\n")?;
-            desk.out.push_str(text.as_str())?;
-        }
+    for line in (0..RULES).map_while(|rule| roster.rule(rule, workspace)) {
+        desk.print(&RuleText(line))?;
     }
     Ok(())
 }
 
 // A line after publishing.
 fn finish(desk: &mut Desk<'_>) -> Result<(), AllocError> {
-    if !desk.next() {
+    let Some(line) = desk.next() else {
         return Ok(());
-    }
-    let line = desk.line.line(desk.ended);
+    };
     let mut bytes = FrameBytes::new();
-    match at_line(desk.number, read_line(Phase::Published, line, &mut bytes)) {
+    match read_line(Phase::Published, line, &mut bytes) {
         Ok(_) => Ok(()),
         Err(fault) => desk.stop(fault),
     }
@@ -161,11 +155,11 @@ fn finish(desk: &mut Desk<'_>) -> Result<(), AllocError> {
 
 // The whole file by the interpreter.
 fn carry_out(desk: &mut Desk<'_>, workspace: &mut [u64]) -> Result<(), AllocError> {
-    if !desk.next() {
+    let heap = desk.heap;
+    let Some(line) = desk.next() else {
         return Ok(());
-    }
-    let line = desk.line.line(desk.ended);
-    let mut draft = match at_line(desk.number, read::open(desk.heap, line)) {
+    };
+    let mut draft = match read::open(heap, line) {
         Ok(draft) => draft,
         Err(fault) => return desk.stop(fault),
     };
@@ -189,14 +183,13 @@ pub fn try_whole(bench: &mut Bench, file: &[u8]) -> Result<(), Stop> {
         heap: bench.heap,
         rest: file,
         line: LineBuffer::new(),
-        ended: false,
         number: 0,
         out: String::new(bench.heap),
     };
     carry_out(&mut desk, bench.workspace.as_mut_slice())?;
     let plain = roster_text(bench.heap, file)?;
     let same = desk.out.as_str() == plain.as_str();
-    agree(0, What::File, Answer::Holds(same), Answer::Holds(true))?;
+    agree(0, What::File, Answer::from(same), FINE)?;
     more(&mut bench.counts.whole_files);
     Ok(())
 }
