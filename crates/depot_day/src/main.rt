@@ -211,13 +211,13 @@ fn again(rt: &HostRuntime, workspace: &mut [u64]) -> anyhow::Result<Plan<Rules>>
     Ok(plan)
 }
 
-// How many cells and tallies of two plans differ.
+// How many cells and tallies of two plans differ; two refused answers count as different.
 fn differences(one: &Plan<Rules>, other: &Plan<Rules>) -> usize {
     let cells = (0..192usize)
-        .filter(|cell| one.cell(*cell).ok() != other.cell(*cell).ok())
+        .filter(|cell| one.cell(*cell).unwrap_or(0) != other.cell(*cell).unwrap_or(1))
         .count();
     let tallies = (0..6usize)
-        .filter(|rule| one.tally(*rule).ok() != other.tally(*rule).ok())
+        .filter(|rule| one.tally(*rule).unwrap_or(0) != other.tally(*rule).unwrap_or(1))
         .count();
     cells.saturating_add(tallies)
 }
