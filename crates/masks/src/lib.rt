@@ -5,9 +5,8 @@
 // Each function answers for every input: a number past the width is no member.
 #![tactic(auto)]
 
-ghost use Rattle.std.specs.Prelude.{◌≡◌, ℕ, cond, [], ◌∷◌, length, Decides, MatchOption};
-ghost use Rattle.std.specs.Int.Count.{ones};
-ghost use Rattle.masks.specs.Bit.{bit, has, Within};
+ghost use Rattle.std.specs.Prelude.{◌≡◌, [], ◌∷◌, length, Decides, MatchOption};
+ghost use Rattle.masks.specs.Bit.{has, Within};
 ghost use Rattle.masks.specs.Members.{members, lost};
 ghost use Rattle.std.specs.Iterator.{at_most};
 

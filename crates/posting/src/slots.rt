@@ -1,5 +1,5 @@
 // Slots: a place for the automaton of one kind, and the rules that count with it.
-ghost use Rattle.std.specs.Prelude.{◌≡◌, true, false, [], is_some, Some, None, MatchResult};
+ghost use Rattle.std.specs.Prelude.{◌≡◌, true, [], is_some, Some, None, MatchResult};
 ghost use Rattle.refusals.specs.declared.PostFault.TheVariants.{GivenBefore};
 ghost use Rattle.posting.specs.Slots.{PostedIn, NotPostedIn};
 

@@ -131,6 +131,7 @@ fn greatest_total(ways: &Ways, before: usize, increase: u64, behind: usize) -> u
     }
 }
 
+// (That a place or a state is one of those that there are stands at each method: it is a fact of that number, and not of what was swept.)
 impl<'a, C: CounterAutomaton> Swept<'a, C> {
     fn new(
         automaton: &'a C,
@@ -239,6 +240,7 @@ impl<'a, C: CounterAutomaton> Swept<'a, C> {
     }
 
     // The counts that some sequence meets, or that lie in the interval of some end state.
+    // (A loop over states, not over a slice: with `fold` the proof did not close.)
     fn met_counts(&self) -> u64
         ensures { (k : ℕ) → k < 64 → Decides (has result k) (CountStays (C.CounterAutomaton.meaning self.now.automaton.now) self.now.masks.now self.now.sense k) }
     {

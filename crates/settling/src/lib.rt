@@ -82,6 +82,7 @@ fn note_widths(cells: &[u16], tallies: &[u64])
 {}
 
 // Runs one rule on the cells and its own tally, and answers how many values went.
+// (The workspace stays a slice, as callers lend it, so its length stands in the clauses of what is private here.)
 fn run_rule<F: Family>(family: &F, rule: usize, masks: &mut Snapshot, workspace: &mut [u64]) -> u32
     requires rule { rule < (F.Family.meaning family.now).rules }
     requires workspace { workspace_needed ≤ length workspace.old }

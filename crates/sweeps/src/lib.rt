@@ -20,6 +20,8 @@ use automata::CounterAutomaton;
 use measures::{Figures, Greatest, Least, Measure, Totals};
 use refusals::PlanFault;
 
+// (The automaton, the masks and the codes stay apart: they are three callers' things, lent for one sweep.)
+
 // Whether the lent codes are too few for a sweep over the row.
 fn too_short(masks: &[u16], codes: &[u64]) -> bool
     ensures { Decides result (length codes.now < needed masks.now) }

@@ -53,6 +53,7 @@ fn ends(text: &[u8], p: &[u8]) -> bool
 }
 
 // The length of the longest proper prefix of the word that is a suffix of the text.
+// (A loop: with `rev().find(..)` the proof did not close.)
 fn longest(word: &[u8], text: &[u8]) -> usize
     requires { 1 ≤ length word.now }
     ensures is { result ≡ longest_of word.now text.now (length word.now - 1) }
