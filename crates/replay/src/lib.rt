@@ -99,9 +99,8 @@ pub fn replay<F: Family>(
 {
     let (mut plan, start) = draft.start(family, workspace);
     let number = calls.len().min(answers.len());
-    // An index loop: of a slice that is written through a zip of `iter_mut` a proof knows nothing afterwards.
-    for i in 0..number {
-        answers[i] = make(&mut plan, calls[i], workspace);
+    for (i, call) in calls[..number].iter().enumerate() {
+        answers[i] = make(&mut plan, *call, workspace);
     }
     (plan, start, number)
 }

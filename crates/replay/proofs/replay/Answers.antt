@@ -1,4 +1,5 @@
 use Rattle.std.proofs.Common.{◌≡◌, ℕ, ◌^◌, ◌<◌, map, length, get_or, take, refl, ap, ◌∙◌, subst, arith, rules}
+use Rattle.std.proofs.lemmas.List.{length-take, get_or-take}
 use Rattle.families.specs.Meaning.{Meaning}
 use Rattle.histories.specs.Law.{DraftCells}
 use Rattle.histories.specs.Plans.{View, Called, Ran, voided}
@@ -23,17 +24,20 @@ loop-i-preserved g c =
     let i = c.loop-i.i in
     let xs = c.args.calls.now in
     let ys = c.loop-i.answers in
+    let n = c.min-number.result in
     let d : Call = record { request = Decide 0 0; workspace = 0 } in
     let x = get_or xs i d in
     let a = c.make.result in
     let p = view c.start-plan.result.0 in
     let q = view c.loop-i.plan in
     let r = view c.make.new.plan in
-    let one : Called (m c.loop-i.plan.held.family) (call_of v x) (answer_of a) q r = c.make.ensures.called in
+    let long : length (take n xs) ≡ n = simp length-take (omega (arith, c.min-number.ensures)) in
+    let here : i < n = omega (arith, c.loop-i-test.true, long) in
+    let one : Called (m c.loop-i.plan.held.family) (call_of v x) (answer_of a) q r = subst (λ (y : Call). Called (m c.loop-i.plan.held.family) (call_of v y) (answer_of a) q r) (get_or-take n xs i d here) c.make.ensures.called in
     let two : Called (m f) (call_of v x) (answer_of a) q r = subst (λ (y : Meaning). Called y (call_of v x) (answer_of a) q r) (ap m c.loop-i.invariant.0) one in
     let three : Called (m f) (call_of w x) (answer_of a) q r = subst (λ (n : ℕ). Called (m f) (call_of n x) (answer_of a) q r) c.loop-i.auto.workspace two in
-    let in-calls : i < length xs = omega (arith, c.loop-i-test.true, c.min-number.ensures) in
-    let in-answers : i < length ys = omega (arith, c.loop-i-test.true, c.min-number.ensures, c.loop-i.auto.answers) in (
+    let in-calls : i < length xs = omega (arith, here, c.min-number.ensures) in
+    let in-answers : i < length ys = omega (arith, here, c.min-number.ensures, c.loop-i.auto.answers) in (
       c.make.ensures.family ∙ c.loop-i.invariant.0,
       ran_next (m f) w xs ys i d a p q r in-calls in-answers c.loop-i.invariant.1 three,
       (λ l. c.make.ensures.short (omega (arith, c.loop-i.auto.workspace, l)) ∙ c.loop-i.invariant.2 l),
@@ -55,7 +59,8 @@ returns g c =
     let v = length c.args.workspace.now in
     let p = view c.start-plan.result.0 in
     let q = view c.loop-i.plan in
-    let end : c.loop-i.i ≡ n = omega (arith, c.loop-i-test.false, c.loop-i.auto.i-end) in
+    let count : length (take n xs) ≡ n = simp length-take (omega (arith, c.min-number.ensures)) in
+    let end : c.loop-i.i ≡ n = omega (arith, c.loop-i-test.false, count, c.loop-i.auto.i-end) in
     let one : Ran (m c.start-plan.result.0.held.family) p (map (call_of w) (take n xs)) (map answer_of (take n ys)) q =
     subst (λ (k : ℕ). Ran (m c.start-plan.result.0.held.family) p (map (call_of w) (take k xs)) (map answer_of (take k ys)) q) end c.loop-i.invariant.1 in
     let two : Ran (m f) p (map (call_of w) (take n xs)) (map answer_of (take n ys)) q =
