@@ -75,6 +75,7 @@ fn size<'a>(rest: &'a [u8]) -> Result<Frame<'a>, FrameFault>
 fn map<'a>(rest: &'a [u8]) -> Result<Frame<'a>, FrameFault>
     ensures { MatchResult result (Body Map rest.now) (BodyFault Map rest.now) }
 {
+    // With `map` and `map_err` the prover does not find the proof by itself.
     let Ok(classes) = <&'a [u8; 16]>::try_from(rest) else {
         return Err(FrameFault::Fixed);
     };

@@ -59,7 +59,7 @@ impl LineBuffer {
         ensures { self.new.text.items ≡ take 517 (self.old.text.items ++ part.now) }
     {
         let room = self.text.remaining_capacity().min(part.len());
-        let _fits = self.text.try_extend_from_slice(&part[..room]);
+        self.text.try_extend_from_slice(&part[..room]).unwrap();
     }
 
     // The characters of a chunk up to its first newline. Answers where that newline is.

@@ -10,6 +10,6 @@ when_ok (Err e) P h p = cc h
 
 pub returns : goal.returns
 returns c =
-    let fits = c.try_extend_from_slice-fits.ensures.variant.1 (omega (arith, length-take c.min-room.result c.args.part.now)) in
-    when_ok _ _ fits c.try_extend_from_slice-fits.ensures.ok
+    let fits = c.try_extend_from_slice.ensures.variant.1 (omega (arith, length-take c.min-room.result c.args.part.now)) in
+    when_ok _ _ fits c.try_extend_from_slice.ensures.ok
     ∙ (rw c.min-room.ensures (kept_part c.args.self.now.text.items c.args.part.now c.remaining_capacity.result c.remaining_capacity.ensures))
