@@ -55,12 +55,11 @@ pub fn call_all<'a>(
     ensures made { Makes (rules_meaning plan.old.plan.held.family) plan.old.size.cells (length workspace.old) (view plan.old.plan) (take result calls.now) (take result told.new) (view plan.new.plan) }
 {
     let number = calls.len().min(told.len());
-    // An index loop: nothing is known of what a loop over an adapter of `iter_mut` wrote.
-    for i in 0..number {
-        if !asks_call(calls[i]) {
+    for (i, frame) in calls[..number].iter().enumerate() {
+        if !asks_call(*frame) {
             return i;
         }
-        let Ok(answer) = plan.take(calls[i], workspace) else {
+        let Ok(answer) = plan.take(*frame, workspace) else {
             return i;
         };
         told[i] = answer;

@@ -22,12 +22,8 @@ impl<'a> FileRoster<'a> {
         ensures left_alone { result ≡ None → workspace.new ≡ workspace.old }
         ensures told { MatchOption result (((rules_meaning self.now.roster.held.family).rules ≤ rule) ⊎ (length workspace.old < workspace_needed)) (λ t. (rule < (rules_meaning self.now.roster.held.family).rules) × (t.rule ≡ rule) × (t.tally ≡ slice_index self.now.roster.held.masks.tallies rule) × (t.figures ≡ (if self.now.roster.held.void then None else ((rules_meaning self.now.roster.held.family).rule rule).figures self.now.roster.held.masks.cells))) }
     {
-        let Ok(tally) = self.roster.tally(rule) else {
-            return None;
-        };
-        let Ok(figures) = self.roster.figures(rule, workspace) else {
-            return None;
-        };
+        let tally = self.roster.tally(rule).ok()?;
+        let figures = self.roster.figures(rule, workspace).ok()?;
         Some(RuleLine {
             rule,
             tally,

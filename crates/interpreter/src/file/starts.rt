@@ -4,7 +4,7 @@ ghost use Rattle.families.specs.Meaning.{workspace_needed};
 ghost use Rattle.histories.specs.Law.{DraftCells};
 ghost use Rattle.histories.specs.Plans.{Begun, voided};
 ghost use Rattle.planning.specs.declared.plan.Start.TheVariants.{Short};
-ghost use Rattle.planning.specs.Views.{view, read, started};
+ghost use Rattle.planning.specs.Views.{view, started};
 ghost use Rattle.posting.specs.Families.{rules_meaning, meaning_of};
 ghost use Rattle.posting.specs.Sheets.{sheet_of};
 
