@@ -149,14 +149,17 @@ impl Display for StartText {
 
 // A mark or a step back: the call, and how many levels are open.
 #[derive(Clone, Copy)]
-struct LevelText(&'static str, Result<usize, PlanFault>);
+struct LevelText {
+    call: &'static str,
+    answer: Result<usize, PlanFault>,
+}
 
 impl Display for LevelText {
-    ghost output = { λ x. Some (level_text x.0.now x.1) };
+    ghost output = { λ x. Some (level_text x.call.now x.answer) };
 
     fn fmt<W: fmt::Write>(&self, f: &mut fmt::Formatter<W>) -> fmt::Result {
-        let call = self.0;
-        match self.1 {
+        let call = self.call;
+        match self.answer {
             Ok(levels) => write!(f, "{call} ok level {levels}"),
             Err(fault) => RefusalText(fault.report()).fmt(f),
         }
@@ -190,8 +193,14 @@ impl Display for ToldText {
                 };
                 text.fmt(f)
             }
-            Told::Marked(answer) => LevelText("mark", answer).fmt(f),
-            Told::Backed(answer) => LevelText("back", answer).fmt(f),
+            Told::Marked(answer) => {
+                let call = "mark";
+                LevelText { call, answer }.fmt(f)
+            }
+            Told::Backed(answer) => {
+                let call = "back";
+                LevelText { call, answer }.fmt(f)
+            }
             Told::Publish => "publish ok".fmt(f),
         }
     }
