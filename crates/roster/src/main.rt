@@ -156,7 +156,7 @@ fn print_roster(desk: &mut Desk, roster: &FileRoster<'_>, workspace: &mut [u64])
         let text = CellText(line);
         writeln!(desk.output, "{text}")?;
     }
-    for line in (0..72).map_while(|rule| roster.rule(rule, workspace)) {
+    for line in (0..families::MOST_RULES).map_while(|rule| roster.rule(rule, workspace)) {
         let text = RuleText(line);
         writeln!(desk.output, "{text}")?;
     }
