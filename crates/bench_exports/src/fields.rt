@@ -1,5 +1,5 @@
 // What crosses over, as plain numbers, and what is made of it. A number stands for a kind only where
-// it comes from C.
+// it comes from C or goes to C.
 use automata::{Among, Map, Table};
 use counting::Counting;
 use families::Pair;
@@ -13,6 +13,7 @@ use words::Word;
 pub struct RuleFields {
     pub family: u8,
     pub sense: u8,
+    // A fixed array and how much of it is used: the C interface.
     pub len: u8,
     pub row: [u8; 64],
     pub tally: u64,

@@ -12,7 +12,7 @@ pub struct Case {
     pub removed: u32,
 }
 
-// Runs the rule once on each case, in place, where there are an automaton and a rule: whether there are.
+// Runs the rule once on each case, in place; false where the automaton or the rule was refused.
 fn run_cases<C: CounterAutomaton + Drop>(
     heap: Global,
     automaton: Option<C>,

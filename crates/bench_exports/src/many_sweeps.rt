@@ -86,6 +86,7 @@ pub extern "C" fn kernel_sweep_set(
     sweep_rows(&Among::new(set), sweep, len, rows, codes)
 }
 
+// One for a word and one for a table: the C interface.
 #[unsafe(no_mangle)]
 pub extern "C" fn kernel_sweep_word(
     word: &[u8],

@@ -1,5 +1,6 @@
 // Settling many times with one family, and a plan's whole history of calls.
 use crate::fields::{Families, RuleFields, families_of};
+use families::MOST_RULES;
 use planning::plan::{Draft, Plan, Start, Try};
 use refusals::PlanFault;
 use settling::{Failure, Settled, Snapshot, Spot, Work};
@@ -11,6 +12,7 @@ use std::alloc::Global;
 #[repr(C)]
 #[derive(Clone, Copy)]
 pub struct Outcome {
+    // A kind by its number: the C interface.
     pub kind: u32,
     pub rule: u32,
     pub cell: u32,
@@ -22,6 +24,7 @@ pub struct Outcome {
 #[repr(C)]
 #[derive(Clone, Copy)]
 pub struct CallFields {
+    // A kind by its number: the C interface.
     pub kind: u8,
     pub target: u8,
     pub mask: u64,
@@ -58,7 +61,7 @@ impl From<Failure> for Outcome {
         };
         Outcome {
             kind: 1,
-            rule: failure.rule.min(72) as u32,
+            rule: failure.rule.min(MOST_RULES) as u32,
             cell,
             runs: failure.work.runs,
             removed: failure.work.removed,
@@ -93,10 +96,8 @@ impl From<Try> for Outcome {
 }
 
 // How many levels are open.
-impl From<usize> for Outcome {
-    fn from(level: usize) -> Outcome {
-        plain_outcome(3, level.min(16) as u32)
-    }
+fn level_outcome(level: usize) -> Outcome {
+    plain_outcome(3, level.min(16) as u32)
 }
 
 // What came of a call, or why it did not go through.
@@ -151,8 +152,8 @@ fn make(plan: &mut Plan<Families<'_>>, call: CallFields, workspace: &mut [u64]) 
     match call.kind {
         0 => outcome_of(plan.decide(target, (call.mask & 0xffff) as u16, workspace)),
         1 => outcome_of(plan.bound(target, call.mask, workspace)),
-        2 => outcome_of(plan.mark()),
-        _ => outcome_of(plan.back()),
+        2 => plan.mark().map_or_else(Outcome::from, level_outcome),
+        _ => plan.back().map_or_else(Outcome::from, level_outcome),
     }
 }
 
