@@ -50,6 +50,7 @@ pub const WIDE: Scale = Scale {
     deep: false,
 };
 
+// (The dice and the scale stay apart: the dice are the bench's, and each trial has its own scale.)
 fn draw_sense(dice: &mut Dice) -> Sense {
     match dice.below(3) {
         0 => Sense::AtMost,

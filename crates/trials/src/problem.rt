@@ -35,7 +35,8 @@ pub struct Posted {
     pub cells: Vec<u8>,
 }
 
-// The masks of all cells, the three automata, and the rules in their order: by kind.
+// The masks of all cells, the three automata, and the rules in their order: by kind. (The table's states
+// and bytes are as a file has them, and may not fit one another.)
 #[derive(Drop)]
 pub struct Problem {
     pub cells: [u16; CELLS],

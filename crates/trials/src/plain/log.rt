@@ -40,7 +40,8 @@ impl Decision {
     }
 }
 
-// The decisions that stood before the first mark, and a list more for each open level.
+// The decisions that stood before the first mark, and a list more for each open level. A void plan has
+// none, and still answers.
 #[derive(Drop)]
 pub struct Log<'a> {
     problem: &'a Problem,

@@ -40,6 +40,7 @@ impl Masks {
         self.tallies.get(rule).copied().unwrap_or(0)
     }
 
+    // (Two functions each to read and to set: a cell's mask and a tally differ in width.)
     pub fn set_cell(&mut self, cell: usize, mask: u16) {
         if let Some(old) = self.cells.get_mut(cell) {
             *old = mask;
