@@ -100,7 +100,7 @@ fn level_outcome(level: usize) -> Outcome {
     plain_outcome(3, level.min(16) as u32)
 }
 
-// What came of a call, or why it did not go through.
+// What came of a call, or why it did not go through. (An `impl` for every `Result` would overlap with that of `Settled`.)
 fn outcome_of<T, E>(answer: Result<T, E>) -> Outcome
 where
     Outcome: From<T> + From<E>,
@@ -117,7 +117,7 @@ impl From<Settled> for Outcome {
     }
 }
 
-// Settles each case in place.
+// Settles each case in place. (Here and below a let-else answers C with false.)
 #[unsafe(no_mangle)]
 pub extern "C" fn kernel_settle(
     heap: Global,
@@ -147,6 +147,7 @@ fn draft_of(cells: &[u16; 192]) -> Draft {
     draft
 }
 
+// (The kinds are numbers in the C interface.)
 fn make(plan: &mut Plan<Families<'_>>, call: CallFields, workspace: &mut [u64]) -> Outcome {
     let target = call.target as usize;
     match call.kind {

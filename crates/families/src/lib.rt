@@ -84,7 +84,8 @@ impl<F, G> Pair<F, G> {
     }
 }
 
-// The part that is asked for a rule, and the rule's number there; neither, from `MOST_RULES` on.
+// The part that is asked for a rule, and the rule's number there; neither, from `MOST_RULES` on. (Three
+// answers to one question, and no `Option` around two of them.)
 enum Part {
     First(usize),
     Second(usize),

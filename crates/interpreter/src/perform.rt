@@ -55,6 +55,7 @@ pub fn call_all<'a>(
     ensures made { Makes (rules_meaning plan.old.plan.held.family) plan.old.size.cells (length workspace.old) (view plan.old.plan) (take result calls.now) (take result told.new) (view plan.new.plan) }
 {
     let number = calls.len().min(told.len());
+    // Answers are written at an index: of what a zip of `iter_mut` wrote a proof knows nothing.
     for (i, frame) in calls[..number].iter().enumerate() {
         if !asks_call(*frame) {
             return i;

@@ -1,4 +1,5 @@
-// Lines, carried out: the calls that a program makes for each line of a file.
+// Lines, carried out: the calls that a program makes for each line of a file. (What they share is
+// `read_line`; each hands its frame to another type.)
 ghost use Rattle.std.specs.Prelude.{◌≡◌, true, length, MatchResult};
 ghost use Rattle.planning.specs.Views.{view};
 ghost use Rattle.posting.specs.Families.{rules_meaning};

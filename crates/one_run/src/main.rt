@@ -53,6 +53,7 @@ fn duty_name(duty: usize) -> &'static str {
     }
 }
 
+// (`FromStr` could stand only beside `Sense`.)
 fn sense_named(name: &str) -> anyhow::Result<Sense> {
     match name {
         "at-most" => Ok(Sense::AtMost),

@@ -39,6 +39,8 @@ pub struct Roster<F: Family> {
     held: Held<F>,
 }
 
+// (Enums with names, and no `Result`: a plan is answered either way.)
+
 // How a start went: settled; void, since settling failed; or void, since the workspace was too short.
 #[derive(Clone, Copy)]
 pub enum Start {

@@ -75,6 +75,7 @@ pub enum PostFault {
     FamilyFull,
 }
 
+// (A method, as for each fault below: a `From` for `Report` would say no more.)
 impl PostFault {
     pub fn report(self) -> Report
         ensures { result ≡ post_report self }
@@ -217,6 +218,7 @@ impl From<FrameFault> for LineFault {
 }
 
 // Why something was not done: a fault of what was given, or want of memory, which is no fault and has no number.
+// (A case with a name: an `Option` of a fault would not say what `None` is.)
 #[derive(Clone, Copy, PartialEq, Eq, Debug)]
 pub enum Stopped<F> {
     Fault(F),

@@ -99,6 +99,7 @@ pub fn replay<F: Family>(
 {
     let (mut plan, start) = draft.start(family, workspace);
     let number = calls.len().min(answers.len());
+    // Answers are written at an index: of what a zip of `iter_mut` wrote a proof knows nothing.
     for (i, call) in calls[..number].iter().enumerate() {
         answers[i] = make(&mut plan, *call, workspace);
     }

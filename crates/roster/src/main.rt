@@ -181,6 +181,7 @@ fn serve(rt: &HostRuntime, desk: &mut Desk) -> anyhow::Result<()> {
     let Some(line) = desk.next()? else {
         return Ok(());
     };
+    // (The other arm prints.)
     let mut draft = match read::open(heap, line) {
         Ok(draft) => draft,
         Err(fault) => return desk.stop(fault),

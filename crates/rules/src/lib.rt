@@ -37,7 +37,7 @@ impl TryFrom<u8> for Sense {
     }
 }
 
-// The first cell that stood before.
+// The first cell that stood before. (A loop: with `position` the proof did not close.)
 fn first_repeat(cells: &[u8]) -> Option<usize>
     ensures { MatchOption result ((i : ℕ) → i < length cells.now → StoodBefore cells.now i → ⊥) (λ i. (i < length cells.now) × StoodBefore cells.now i × ((j : ℕ) → j < i → StoodBefore cells.now j → ⊥)) }
 {

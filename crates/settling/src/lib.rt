@@ -32,7 +32,8 @@ pub struct Work {
     pub removed: u32,
 }
 
-// An empty mask: of a cell, or of the tally of the rule that ran.
+// An empty mask: of a cell, or of the tally of the rule that ran. (A case with a name for each: an `Option`
+// of a cell would not say what `None` is.)
 #[derive(Clone, Copy)]
 pub enum Spot {
     Cell(usize),
@@ -92,6 +93,7 @@ fn run_rule<F: Family>(family: &F, rule: usize, masks: &mut Snapshot, workspace:
     family.run(rule, &mut masks.cells, &mut masks.tallies[rule], workspace)
 }
 
+// Runs round after round. (The loop has a name, so that a run inside a round can end it.)
 pub fn settle<F: Family>(
     family: &F,
     masks: &mut Snapshot,

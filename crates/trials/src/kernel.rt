@@ -13,7 +13,7 @@ use std::alloc::Global;
 use words::Word;
 
 // The rules of a problem: those that count duties of the set, then the word's, then the table's.
-pub type Rules<'a> = Pair<Pair<Counting<Among>, Counting<Map<Word>>>, Counting<Table<'a>>>;
+pub type Rules<'a> = posting::drafting::Rules<'a>;
 
 impl From<refusals::Layer> for Layer {
     fn from(layer: refusals::Layer) -> Layer {
@@ -204,10 +204,8 @@ fn post_rules<C>(
     kind: Kind,
     family: &mut Counting<C>,
 ) -> Result<(), Stop> {
-    for posted in problem.rules.iter() {
-        if posted.kind == kind {
-            family.post(rule_of(heap, posted)?)?;
-        }
+    for posted in problem.rules.iter().filter(|posted| posted.kind == kind) {
+        family.post(rule_of(heap, posted)?)?;
     }
     Ok(())
 }
@@ -215,10 +213,12 @@ fn post_rules<C>(
 // The rules that count with the table.
 fn table_rules(heap: Global, problem: &Problem) -> Result<Vec<Rule>, Stop> {
     let mut rules = Vec::new(heap);
-    for posted in problem.rules.iter() {
-        if posted.kind == Kind::Table {
-            rules.push(rule_of(heap, posted)?)?;
-        }
+    for posted in problem
+        .rules
+        .iter()
+        .filter(|posted| posted.kind == Kind::Table)
+    {
+        rules.push(rule_of(heap, posted)?)?;
     }
     Ok(rules)
 }

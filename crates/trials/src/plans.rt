@@ -10,7 +10,7 @@ use crate::kernel::{Rules, answer_to};
 use crate::plain::log::{Decision, Log};
 use crate::plain::rounds::{EMPTY, Masks};
 use crate::plain::{fillings, rounds, stable};
-use crate::problem::{Call, Problem, Request, call_of};
+use crate::problem::{Call, Problem, Request};
 use crate::stop::{Stop, What, agree};
 use automata::CounterAutomaton;
 use families::Family;
@@ -32,7 +32,7 @@ struct Trial<'a> {
 
 // What the kernel answers to a request with enough workspace.
 fn ask(bench: &mut Bench, plan: &mut Plan<Rules>, request: Request) -> Answer {
-    kernel::make(plan, call_of(request), bench.workspace.as_mut_slice())
+    kernel::make(plan, Call::from(request), bench.workspace.as_mut_slice())
 }
 
 // Whether every cell of the kernel's plan is as in these masks.
@@ -93,7 +93,7 @@ fn make(
     Ok(answer)
 }
 
-// The decision that a request asks for.
+// The decision that a request asks for. (An `Option`: that most requests are none is no error.)
 fn decision_of(request: Request) -> Option<Decision> {
     match request {
         Request::Decide { cell, mask } => Some(Decision::Cell { cell, mask }),
@@ -309,7 +309,7 @@ impl<'a> Trial<'a> {
             let answer = make(
                 bench,
                 &mut plan,
-                call_of(Request::from(*decision)),
+                Call::from(Request::from(*decision)),
                 self.call,
             )?;
             let settled = Answer::Holds(matches!(answer, Answer::Settled(_)));

@@ -5,6 +5,7 @@ use crate::counts::more;
 use crate::dice::Dice;
 use crate::kernel::{judged, taken};
 use crate::plain::faults;
+use crate::problem;
 use crate::stop::{Stop, What, agree};
 use automata::Table;
 use planning::plan::Draft;
@@ -132,7 +133,7 @@ fn try_range(bench: &mut Bench) -> Result<(), Stop> {
 fn try_sense(bench: &mut Bench) -> Result<(), Stop> {
     let number = (bench.dice.below(5) % 256) as u8;
     let kernel = judged(Sense::try_from(number));
-    compare(bench, kernel, judged(faults::sense_of(number)))
+    compare(bench, kernel, judged(problem::Sense::try_from(number)))
 }
 
 // Posts one of each.

@@ -83,9 +83,11 @@ pub struct Call {
 }
 
 // A call with enough workspace.
-pub fn call_of(request: Request) -> Call {
-    Call {
-        request,
-        workspace: WORKSPACE,
+impl From<Request> for Call {
+    fn from(request: Request) -> Call {
+        Call {
+            request,
+            workspace: WORKSPACE,
+        }
     }
 }

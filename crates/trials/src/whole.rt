@@ -159,6 +159,7 @@ fn carry_out(desk: &mut Desk<'_>, workspace: &mut [u64]) -> Result<(), AllocErro
     let Some(line) = desk.next() else {
         return Ok(());
     };
+    // (The other arm prints.)
     let mut draft = match read::open(heap, line) {
         Ok(draft) => draft,
         Err(fault) => return desk.stop(fault),

@@ -58,7 +58,7 @@ pub enum Frame<'a> {
     Publish,
 }
 
-// The size of a plan: 1 to 192 cells.
+// The size of a plan: 1 to 192 cells. (A file's draft judges it again, by the type that it keeps.)
 fn size<'a>(rest: &'a [u8]) -> Result<Frame<'a>, FrameFault>
     ensures { MatchResult result (Body Size rest.now) (BodyFault Size rest.now) }
 {
@@ -75,7 +75,7 @@ fn size<'a>(rest: &'a [u8]) -> Result<Frame<'a>, FrameFault>
 fn map<'a>(rest: &'a [u8]) -> Result<Frame<'a>, FrameFault>
     ensures { MatchResult result (Body Map rest.now) (BodyFault Map rest.now) }
 {
-    // With `map` and `map_err` the prover does not find the proof by itself.
+    // (A let-else: with `map` and `map_err` the proof did not close without lemmas of its own.)
     let Ok(classes) = <&'a [u8; 16]>::try_from(rest) else {
         return Err(FrameFault::Fixed);
     };

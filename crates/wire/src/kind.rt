@@ -40,6 +40,7 @@ pub enum Kind {
 }
 
 // The kind that a byte stands for.
+// (Like the other two of numbers, a sense's and an automaton's: they share no case.)
 impl TryFrom<u8> for Kind {
     type Error = FrameFault;
 

@@ -17,7 +17,8 @@ pub const LONGEST: usize = 516;
 // One more than that.
 const KEPT: usize = 517;
 
-// A line: what stands before its newline, and whether it has one.
+// A line: what stands before its newline, and whether it has one. (Both, and no `Option`: of several things
+// wrong with a line the first is told, whether or not it has its newline.)
 #[derive(Clone, Copy)]
 pub struct Line<'a> {
     pub text: &'a [u8],

@@ -64,7 +64,7 @@ fn void_plan<F: Family>(family: F) -> Plan<F>
     }
 }
 
-// Whether a workspace is long enough to start on.
+// Whether a workspace is long enough to start on. (The crates below have this comparison too: each answers it in its own way.)
 pub fn check_workspace(workspace: &[u64]) -> Result<(), PlanFault>
     ensures { MatchResult result (λ _. workspace_needed ≤ length workspace.now) (λ e. (e ≡ Workspace) × (length workspace.now < workspace_needed)) }
 {

@@ -51,6 +51,7 @@ impl<F: Family> Held<F> {
     }
 }
 
+// (The questions of a plan and of a roster are two public names each, and one call.)
 impl<F: Family> Plan<F> {
     pub fn cell(&self, cell: usize) -> Result<u16, PlanFault>
         ensures { (w : ℕ) → Called (F.Family.meaning self.now.held.family) (ask (of_cell cell) w) (held result) (view self.now) (view self.now) }

@@ -2,7 +2,7 @@
 use crate::answer::Refusal;
 use crate::plain::faults;
 use crate::plain::frames::{Frame, Halt, byte, number, part};
-use crate::problem::{CELLS, Kind, Posted, Problem};
+use crate::problem::{CELLS, Kind, Posted, Problem, Sense};
 use std::alloc::{AllocError, Global};
 
 // The most rules of one automaton.
@@ -28,12 +28,16 @@ fn once<T>(given: &Option<T>) -> Result<(), Refusal> {
     Ok(())
 }
 
-fn kind_of(number: u8) -> Result<Kind, Refusal> {
-    match number {
-        3 => Ok(Kind::Among),
-        4 => Ok(Kind::Word),
-        5 => Ok(Kind::Table),
-        _ => Err(faults::fault(11, 0)),
+impl TryFrom<u8> for Kind {
+    type Error = Refusal;
+
+    fn try_from(number: u8) -> Result<Kind, Refusal> {
+        match number {
+            3 => Ok(Kind::Among),
+            4 => Ok(Kind::Word),
+            5 => Ok(Kind::Table),
+            _ => Err(faults::fault(11, 0)),
+        }
     }
 }
 
@@ -114,8 +118,8 @@ impl Drafted {
         let cells = part(body, 10, body.len());
         let tally = number(part(body, 2, 10));
         faults::check_row(cells, self.size)?;
-        let sense = faults::sense_of(byte(body, 1))?;
-        let kind = kind_of(byte(body, 0))?;
+        let sense = Sense::try_from(byte(body, 1))?;
+        let kind = Kind::try_from(byte(body, 0))?;
         faults::check_tally(tally)?;
         self.check_kind(kind)?;
         let cells = Vec::from_slice(heap, cells)?;

@@ -89,10 +89,15 @@ pub fn check_range(first: usize, number: usize, limit: usize, mask: u16) -> Resu
     Ok(())
 }
 
-// The sense of a number.
-pub fn sense_of(number: u8) -> Result<Sense, Refusal> {
-    [Sense::AtMost, Sense::AtLeast, Sense::Exactly]
-        .get(usize::from(number))
-        .copied()
-        .ok_or(fault(11, 0))
+impl TryFrom<u8> for Sense {
+    type Error = Refusal;
+
+    fn try_from(number: u8) -> Result<Sense, Refusal> {
+        match number {
+            0 => Ok(Sense::AtMost),
+            1 => Ok(Sense::AtLeast),
+            2 => Ok(Sense::Exactly),
+            _ => Err(fault(11, 0)),
+        }
+    }
 }

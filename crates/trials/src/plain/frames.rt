@@ -5,7 +5,7 @@ use std::alloc::{AllocError, AllocFailed, Global};
 // The most characters of a line.
 const LONGEST: usize = 516;
 
-// A line: its characters, and whether a newline follows.
+// A line: its characters, and whether a newline follows. (Both: what is wrong with the characters is told first.)
 #[derive(Drop)]
 pub struct Line {
     pub text: Vec<u8>,

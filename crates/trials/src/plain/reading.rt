@@ -4,7 +4,7 @@ use crate::plain::drafted::Drafted;
 use crate::plain::frames::{Frame, Halt, Line, Stage, byte, lines_of, number, part, read_frame};
 use crate::plain::log::Log;
 use crate::plain::rounds::Masks;
-use crate::problem::{Request, WORKSPACE, call_of};
+use crate::problem::{Call, Request, WORKSPACE};
 use std::alloc::{AllocError, Global};
 use std::fmt;
 
@@ -114,20 +114,22 @@ fn said(
 }
 
 // The request of a frame after the start.
-fn request_of(frame: &Frame) -> Request {
-    let body = frame.body.as_slice();
-    let first = usize::from(byte(body, 0));
-    match frame.kind {
-        0x09 => Request::Decide {
-            cell: first,
-            mask: (number(part(body, 1, 3)) & 0xffff) as u16,
-        },
-        0x0a => Request::Bound {
-            rule: first,
-            tally: number(part(body, 1, 9)),
-        },
-        0x0b => Request::Mark,
-        _ => Request::Back,
+impl From<&Frame> for Request {
+    fn from(frame: &Frame) -> Request {
+        let body = frame.body.as_slice();
+        let first = usize::from(byte(body, 0));
+        match frame.kind {
+            0x09 => Request::Decide {
+                cell: first,
+                mask: (number(part(body, 1, 3)) & 0xffff) as u16,
+            },
+            0x0a => Request::Bound {
+                rule: first,
+                tally: number(part(body, 1, 9)),
+            },
+            0x0b => Request::Mark,
+            _ => Request::Back,
+        }
     }
 }
 
@@ -169,7 +171,7 @@ impl<'a> Running<'a> {
         let masks = self.log.masks(self.heap)?;
         self.publish_cells(&masks)?;
         for (rule, tally) in masks.tallies.iter().enumerate().take(self.rules) {
-            let call = call_of(Request::Figures(rule));
+            let call = Call::from(Request::Figures(rule));
             let answer = self.log.make(self.heap, call)?;
             let figures = figures_text(self.heap, answer)?;
             let text = format!(in self.heap; "rule {rule} {tally:016x} {figures}\n")?;
@@ -182,7 +184,7 @@ impl<'a> Running<'a> {
     fn answer(&mut self, request: Request) -> Result<Answer, AllocError> {
         match request {
             Request::Decide { cell, mask: _ } if cell >= self.size => Ok(refused(6)),
-            _ => self.log.make(self.heap, call_of(request)),
+            _ => self.log.make(self.heap, Call::from(request)),
         }
     }
 
@@ -193,7 +195,7 @@ impl<'a> Running<'a> {
             tell(&mut self.out, at, "publish ok")?;
             return Ok(self.publish()?);
         }
-        let request = request_of(&frame);
+        let request = Request::from(&frame);
         let answer = self.answer(request)?;
         let (name, spot) = named(request);
         let text = said(self.heap, name, "fails", spot, answer)?;
