@@ -37,16 +37,18 @@ FILES = list(sources())
 PATTERNS = [
     ("1a enums (of these, the shape of Option or Result is for the reader to see)", r"^\s*(pub )?enum "),
     ("1b a flag in a type or among parameters", r"\b[a-z_]+: bool\b"),
-    ("1c numbers for kinds", r"fn from_number|fn of\(byte|\b(kind|sweep): u(8|32)\b|\.number =="),
+    ("1c numbers for kinds", r"fn from_number|fn of\(byte|\b(kind|sweep): u(8|32)\b|\bnumber: u32\b|\.number =="),
     ("1d arms that only unwrap or pass on",
      r"^\s*(Ok|Some)\((\w+)\) => (Ok\(|Some\()?\2\)?,$|^\s*Err\((_|\w+)\) => (None|0|false|Err\(.*|return Err\(.*),$|^\s*None => (None|0|false|return .*),$"),
     ("1e let-else that only gives up with None, false or 0", None),
-    ("3a loops over a range of numbers", r"^\s*for \w+ in \(?[^{]*\.\."),
-    ("3b while and loop", r"^\s*('\w+: )?(while |loop \{|let \w+ = '\w+: loop)"),
+    ("3a loops over a range whose number indexes something", None),
+    ("3b other loops over a range of numbers", None),
+    ("3c loops that only look for the first or ask of all", None),
+    ("3d while and loop", r"^\s*('\w+: )?(while |loop \{|let \w+ = '\w+: loop)"),
     ("4a conversions, equality, printing by hand",
      r"^\s*(pub )?fn (\w+_of|from_\w+|of|sense_named|\w+_answer|eq|cmp|clone|default)(<[^>]*>)?\("),
     ("6a arrays with a length beside them", None),
-    ("7a a step chosen by a number or a flag", r"match (sweep|call\.kind|kind) \{|if full \{|\bvoid: bool,$"),
+    ("7a a step chosen by a number or a flag", r"match (sweep|number|call\.kind|kind) \{|if full \{|\bvoid: bool,$"),
 ]
 
 
@@ -66,6 +68,38 @@ def giving_up():
         for m in re.finditer(r"let (Ok|Some)\([^;{]*else \{\s*return (None|false|0|Err\(\w+::\w+\));\s*\};", text):
             found.append(f"{name}:{text[:m.start()].count(chr(10)) + 1}: {' '.join(m.group(0).split())}")
     return found
+
+
+def loops():
+    """Each `for`: its place, its head, its variable and its body (by indentation)."""
+    for name, text in FILES:
+        rows = text.split("\n")
+        for i, row in enumerate(rows):
+            m = re.match(r"^(\s*)for (.+?) in (.*) \{$", row)
+            if not m:
+                continue
+            end = i + 1
+            while end < len(rows) and rows[end].rstrip() != m.group(1) + "}":
+                end += 1
+            yield f"{name}:{i + 1}: {row.strip()}", m.group(2), m.group(3), "\n".join(rows[i + 1:end])
+
+
+def range_loops(indexing):
+    """Loops over a range: those whose number stands in brackets or is handed to a look-up, or the others."""
+    found = []
+    for place, var, over, body in loops():
+        if ".." not in over or "[.." in over or re.search(r"\w\[", over):
+            continue
+        uses = re.search(r"\[[^\]]*\b%s\b[^\]]*\]|\.(get|get_mut|cell|tally|show|set_cell)\(%s\b" % (re.escape(var), re.escape(var)), body)
+        if bool(uses) == indexing:
+            found.append(place)
+    return found
+
+
+def searches():
+    """Loops that do no more than test and return, or leave."""
+    return [place for place, _var, _over, body in loops()
+            if re.fullmatch(r"\s*if [^;{}]*\{\s*return [^;]*;\s*\}\s*", body)]
 
 
 def arrays_with_length():
@@ -153,6 +187,12 @@ def show(title, found):
 for title, pattern in PATTERNS:
     if title.startswith("1e"):
         show(title, giving_up())
+    elif title.startswith("3a"):
+        show(title, range_loops(True))
+    elif title.startswith("3b"):
+        show(title, range_loops(False))
+    elif title.startswith("3c"):
+        show(title, searches())
     elif title.startswith("6a"):
         show(title, arrays_with_length())
     else:

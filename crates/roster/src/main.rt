@@ -12,14 +12,14 @@ use interpreter::read;
 use posting::drafting::{Drafted, FileDraft};
 use posting::kept::KeptTable;
 use printing::{CellText, Entry, FaultText, MemoryText, RuleText};
-use refusals::{FileFault, LineError, LineFault};
+use refusals::{FileFault, LineError};
 use std::alloc::Global;
 use std::io;
 use std::io::{BufRead, BufReader, BufWriter, Stdin, Stdout, Write};
 use wire::digits::FrameBytes;
 use wire::lines::{Line, LineBuffer};
 use wire::order::Phase;
-use wire::reader::read_line;
+use wire::reader::{at_line, read_line};
 
 // Standard input by lines, and standard output.
 #[derive(Drop)]
@@ -84,19 +84,19 @@ impl Desk {
     }
 
     // Prints a fault of the line, which ends the program with status 1.
-    fn stop(&mut self, fault: LineFault) -> anyhow::Result<()> {
-        let line = self.number;
-        let fault = FaultText(FileFault { line, fault });
+    fn stop(&mut self, fault: FileFault) -> anyhow::Result<()> {
+        let fault = FaultText(fault);
         writeln!(self.output, "{fault}")?;
         self.end()
     }
 
     // The same of a line before the start, for which there may be no memory.
     fn stop_draft(&mut self, error: LineError) -> anyhow::Result<()> {
+        let line = self.number;
         match error {
-            LineError::Fault(fault) => self.stop(fault),
+            LineError::Fault(fault) => self.stop(FileFault { line, fault }),
             LineError::Memory => {
-                let text = MemoryText { line: self.number };
+                let text = MemoryText { line };
                 writeln!(self.output, "{text}")?;
                 self.end()
             }
@@ -137,7 +137,8 @@ fn plan_all(
         let Some(line) = desk.next()? else {
             break;
         };
-        match read::plan_line(plan, line, workspace) {
+        let answer = read::plan_line(plan, line, workspace);
+        match at_line(desk.number, answer) {
             Ok(told) => {
                 desk.tell(told)?;
                 if let Told::Publish = told {
@@ -169,7 +170,8 @@ fn finish(desk: &mut Desk) -> anyhow::Result<()> {
         return Ok(());
     };
     let mut bytes = FrameBytes::new();
-    match read_line(Phase::Published, line, &mut bytes) {
+    let answer = read_line(Phase::Published, line, &mut bytes);
+    match at_line(desk.number, answer) {
         Ok(_) => Ok(()),
         Err(fault) => desk.stop(fault),
     }
@@ -181,8 +183,9 @@ fn serve(rt: &HostRuntime, desk: &mut Desk) -> anyhow::Result<()> {
     let Some(line) = desk.next()? else {
         return Ok(());
     };
+    let answer = read::open(heap, line);
     // (The other arm prints.)
-    let mut draft = match read::open(heap, line) {
+    let mut draft = match at_line(desk.number, answer) {
         Ok(draft) => draft,
         Err(fault) => return desk.stop(fault),
     };
