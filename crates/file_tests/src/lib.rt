@@ -4,12 +4,14 @@
 
 #[cfg(test)]
 mod tests {
-    use interpreter::file::{FilePlan, Told};
+    use interpreter::file::{CellLine, FilePlan, RuleLine, Told};
     use interpreter::read;
-    use planning::plan::Start;
+    use measures::Figures;
+    use planning::plan::{Start, Try};
     use posting::drafting::FileDraft;
     use posting::kept::KeptTable;
     use refusals::{FileFault, Layer, LineError, LineFault, PlanFault, Report};
+    use settling::Work;
     use std::alloc::Global;
     use std::test::Fail;
     use wire::lines::Line;
@@ -101,10 +103,114 @@ mod tests {
         assert!(rt; matches!(start, Start::Void(_)));
         let answer = read::plan_line(&mut plan, line(b"0b"), workspace)?;
         assert!(rt; matches!(answer, Told::Marked(Err(PlanFault::Void))));
+        let answer = read::plan_line(&mut plan, line(b"09000001"), workspace)?;
+        assert!(rt;
+            matches!(
+                answer,
+                Told::Decided {
+                    cell: 0,
+                    answer: Err(PlanFault::Void)
+                }
+            )
+        );
+        let answer = read::plan_line(&mut plan, line(b"0a000000000000000001"), workspace)?;
+        assert!(rt;
+            matches!(
+                answer,
+                Told::Bounded {
+                    rule: 0,
+                    answer: Err(PlanFault::Void)
+                }
+            )
+        );
+        let answer = read::plan_line(&mut plan, line(b"0c"), workspace)?;
+        assert!(rt; matches!(answer, Told::Backed(Err(PlanFault::Void))));
         let Err(fault) = read::plan_line(&mut plan, line(b"08"), workspace) else {
             return Err(Fail::new("a second start was taken"));
         };
         assert_eq!(rt; Some(report(fault)), told(21, Layer::Frame, 0));
+        let roster = plan.publish();
+        assert!(rt; matches!(roster.cell(0), Some(CellLine { cell: 0, mask: 0 })));
+        let rule = roster.rule(0, workspace);
+        assert!(rt;
+            matches!(
+                rule,
+                Some(RuleLine {
+                    rule: 0,
+                    tally: 0,
+                    figures: None
+                })
+            )
+        );
+        Ok(())
+    }
+
+    #[test]
+    fn ten_lines_are_answered(rt: HostRuntime) -> Result<(), Fail> {
+        let heap = rt.alloc();
+        let mut draft = read::open(heap, line(b"0103"))?;
+        assert_eq!(rt; posting(heap, &mut draft, b"0200030003")?, None);
+        assert_eq!(rt; posting(heap, &mut draft, b"030002")?, None);
+        let rule = b"0703000000000000000003000102";
+        assert_eq!(rt; posting(heap, &mut draft, rule)?, None);
+        let mut room = KeptTable::blank();
+        let mut workspace = vec![in heap; 0u64; families::WORKSPACE]?;
+        let workspace = workspace.as_mut_slice();
+        let (mut plan, start) = FilePlan::start(draft, &mut room, workspace);
+        assert!(rt;
+            matches!(
+                start,
+                Start::Settled(Work {
+                    runs: 1,
+                    removed: 0
+                })
+            )
+        );
+        let answer = read::plan_line(&mut plan, line(b"09000002"), workspace)?;
+        let Told::Decided { cell, answer } = answer else {
+            return Err(Fail::new("it is no decision"));
+        };
+        assert_eq!(rt; cell, 0);
+        assert!(rt;
+            matches!(
+                answer,
+                Ok(Try::Settled(Work {
+                    runs: 2,
+                    removed: 3
+                }))
+            )
+        );
+        let answer = read::plan_line(&mut plan, line(b"0b"), workspace)?;
+        assert!(rt; matches!(answer, Told::Marked(Ok(1))));
+        let answer = read::plan_line(&mut plan, line(b"09010002"), workspace)?;
+        assert!(rt;
+            matches!(
+                answer,
+                Told::Decided {
+                    cell: 1,
+                    answer: Ok(Try::Own)
+                }
+            )
+        );
+        let answer = read::plan_line(&mut plan, line(b"0c"), workspace)?;
+        assert!(rt; matches!(answer, Told::Backed(Ok(0))));
+        let answer = read::plan_line(&mut plan, line(b"0d"), workspace)?;
+        assert!(rt; matches!(answer, Told::Publish));
+        let roster = plan.publish();
+        assert!(rt; matches!(roster.cell(0), Some(CellLine { cell: 0, mask: 2 })));
+        assert!(rt; matches!(roster.cell(1), Some(CellLine { cell: 1, mask: 1 })));
+        assert!(rt; matches!(roster.cell(2), Some(CellLine { cell: 2, mask: 1 })));
+        assert!(rt; roster.cell(3).is_none());
+        let Some(rule) = roster.rule(0, workspace) else {
+            return Err(Fail::new("there is no rule"));
+        };
+        assert_eq!(rt; (rule.rule, rule.tally), (0, 2));
+        let figures = Figures {
+            least: 1,
+            greatest: 1,
+            totals: 2,
+        };
+        assert_eq!(rt; rule.figures, Some(figures));
         Ok(())
     }
 }
