@@ -20,6 +20,7 @@ pub struct RuleFields {
 }
 
 // The rules of a plan: at first those of the set, then those of the word read by classes, then those of the table.
+// (A file's rules have the same type, but the exports stand below what reads files.)
 pub type Families<'a> = Pair<Pair<Counting<Among>, Counting<Map<Word>>>, Counting<Table<'a>>>;
 
 pub fn rule_of(heap: Global, fields: &RuleFields) -> Option<Rule> {

@@ -95,12 +95,12 @@ impl From<Try> for Outcome {
     }
 }
 
-// How many levels are open.
+// How many levels are open. (No `From<usize>`: a bare number is no level.)
 fn level_outcome(level: usize) -> Outcome {
     plain_outcome(3, level.min(16) as u32)
 }
 
-// What came of a call, or why it did not go through. (An `impl` for every `Result` would overlap with that of `Settled`.)
+// What came of a call, or why it did not go through. (Like `answer_to` in the trials: each makes a type of its own crate.)
 fn outcome_of<T, E>(answer: Result<T, E>) -> Outcome
 where
     Outcome: From<T> + From<E>,

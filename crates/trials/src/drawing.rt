@@ -7,7 +7,7 @@ use crate::problem::{CELLS, Call, Kind, Posted, Problem, Request, Sense, WORKSPA
 use std::alloc::{AllocError, Global};
 
 // How large a problem may be: at the most so many cells with rules, duties, rules of each kind and
-// counts of a tally; and whether its calls are mostly marks.
+// counts of a tally; and whether its calls are mostly marks, which is a yes or no of its own.
 #[derive(Clone, Copy)]
 pub struct Scale {
     pub cells: u64,

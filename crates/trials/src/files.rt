@@ -45,7 +45,8 @@ fn write_frame(dice: &mut Dice, file: &mut Vec<u8>, mut bytes: Vec<u8>) -> Resul
     write_line(file, bytes.as_slice())
 }
 
-// A frame of a kind, by the number that a file has for it, and the bytes after it.
+// A frame of a kind, by the number that a file has for it, and the bytes after it. (`spell` in `lines` is
+// the like over what the kernel read; neither shares a table of kinds with the kernel.)
 fn frame(heap: Global, kind: u8, body: &[u8]) -> Result<Vec<u8>, AllocError> {
     let mut bytes = Vec::new(heap);
     bytes.push(kind)?;

@@ -158,7 +158,8 @@ impl From<Sense> for rules::Sense {
     }
 }
 
-// The answer to a question or a post: what came of it, or why it is refused.
+// The answer to a question or a post: what came of it, or why it is refused. (Like `outcome_of` in the
+// exports: each makes a type of its own crate.)
 pub fn answer_to<T, E>(told: Result<T, E>) -> Answer
 where
     Answer: From<T> + From<E>,

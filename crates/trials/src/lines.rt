@@ -25,7 +25,7 @@ fn buffer_of(text: &[u8]) -> LineBuffer {
     buffer
 }
 
-// Appends a kind, by its number, and parts of what follows it.
+// Appends a kind, by its number as a file has it, and parts of what follows it.
 fn spell(bytes: &mut Vec<u8>, kind: u8, first: &[u8], second: &[u8]) -> Result<(), AllocError> {
     bytes.push(kind)?;
     bytes.extend_from_slice(first)?;

@@ -50,7 +50,8 @@ fn compare_cells(
     Ok(())
 }
 
-// Whether the kernel's plan shows these masks, and their figures.
+// Whether the kernel's plan shows these masks, and their figures, of which a void plan has none. (A plan is
+// asked by calls, a roster further down is read.)
 fn compare_plan(
     bench: &mut Bench,
     problem: &Problem,

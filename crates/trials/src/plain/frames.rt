@@ -114,7 +114,7 @@ fn decode(heap: Global, line: &Line) -> Result<Vec<u8>, Halt> {
     Ok(bytes)
 }
 
-// Whether a frame of this kind may come at this stage.
+// Whether a frame of this kind, by its number, may come at this stage.
 fn may_come(stage: Stage, kind: u8) -> bool {
     match stage {
         Stage::First => kind == 1,
