@@ -61,13 +61,22 @@ def lines_like(pattern):
     return found
 
 
+def matches(pattern, flags=0):
+    """Each match of a pattern over whole files: its file and line, and the match."""
+    for name, text in FILES:
+        for m in re.finditer(pattern, text, flags):
+            yield f"{name}:{text[:m.start()].count(chr(10)) + 1}", m
+
+
 def giving_up():
     """`let .. else { return None; }` and the like: `?`, `ok()` or a method says the same."""
-    found = []
-    for name, text in FILES:
-        for m in re.finditer(r"let (Ok|Some)\([^;{]*else \{\s*return (None|false|0|Err\(\w+::\w+\));\s*\};", text):
-            found.append(f"{name}:{text[:m.start()].count(chr(10)) + 1}: {' '.join(m.group(0).split())}")
-    return found
+    pattern = r"let (Ok|Some)\([^;{]*else \{\s*return (None|false|0|Err\(\w+::\w+\));\s*\};"
+    return [f"{place}: {' '.join(m.group(0).split())}" for place, m in matches(pattern)]
+
+
+def block_end(rows, first, indent):
+    """The row of the bracket that closes the block which opens at a row."""
+    return next((i for i in range(first + 1, len(rows)) if rows[i].rstrip() == indent + "}"), len(rows))
 
 
 def loops():
@@ -78,9 +87,7 @@ def loops():
             m = re.match(r"^(\s*)for (.+?) in (.*) \{$", row)
             if not m:
                 continue
-            end = i + 1
-            while end < len(rows) and rows[end].rstrip() != m.group(1) + "}":
-                end += 1
+            end = block_end(rows, i, m.group(1))
             yield f"{name}:{i + 1}: {row.strip()}", m.group(2), m.group(3), "\n".join(rows[i + 1:end])
 
 
@@ -104,13 +111,8 @@ def searches():
 
 def arrays_with_length():
     """Structs with an array field and a number of how much of it is in use."""
-    found = []
-    for name, text in FILES:
-        for m in re.finditer(r"struct (\w+)[^{;]*\{(.*?)\n\s*\}", text, re.S):
-            body = m.group(2)
-            if re.search(r"\b(len|levels|states): (usize|u8)", body) and re.search(r": \[", body):
-                found.append(f"{name}:{text[:m.start()].count(chr(10)) + 1}: {m.group(1)}")
-    return found
+    return [f"{place}: {m.group(1)}" for place, m in matches(r"struct (\w+)[^{;]*\{(.*?)\n\s*\}", re.S)
+            if re.search(r"\b(len|levels|states): (usize|u8)", m.group(2)) and re.search(r": \[", m.group(2))]
 
 
 def functions():
@@ -121,9 +123,7 @@ def functions():
             m = re.match(r"^(\s*)(?:pub(?:\([a-z]+\))? )?(?:extern \"C\" )?fn (\w+)", row)
             if not m or row.rstrip().endswith(";"):
                 continue
-            end = i + 1
-            while end < len(rows) and rows[end].rstrip() != m.group(1) + "}":
-                end += 1
+            end = block_end(rows, i, m.group(1))
             whole = "\n".join(rows[i:end + 1])
             cut = whole.find("\n" + m.group(1) + "{\n")
             if cut < 0:
