@@ -1,9 +1,10 @@
 -- Levels: what a mark and going back do to a plan.
-use Rattle.std.proofs.Common.{◌≡◌, ℕ, ◌+◌, ◌<◌, ◌≤◌, Bool, false, true, Some, None, Err, Option, IsSome, ⊎_elim, List, [], ◌∷◌, ◌++◌, map, reverse, length, ap, ◌∙◌, arith}
-use Rattle.std.proofs.lemmas.List.{reverse-append, length-map, length-reverse, length-append, append-nil}
-use Rattle.std.proofs.lemmas.Bool.{cases_lt}
-use Rattle.std.specs.Option.{option_to_list, ok_or}
-use Rattle.refusals.specs.declared.PlanFault.{PlanFault}
+use Rattle.std.proofs.Common.{◌≡◌, ℕ, ◌+◌, ◌-◌, ◌<◌, Bool, false, Some, None, Option, List, [], ◌∷◌, ◌++◌, map, reverse, length, get_or, take, sym, refl, ap, ◌∙◌, arith}
+use Rattle.std.proofs.Math.Seq.{take-length}
+use Rattle.std.proofs.lemmas.List.{reverse-append, length-map, length-reverse, length-append, take_more}
+use Rattle.std.proofs.lemmas.Option.{slice_get_within, slice_get-get_or, get_or_from_slice_get}
+use Rattle.std.specs.List.{slice_get}
+use Rattle.std.specs.Option.{option_to_list}
 use Rattle.refusals.specs.declared.PlanFault.TheVariants.{NoLevel}
 use Rattle.families.specs.Meaning.{Meaning}
 use Rattle.settling.specs.Masks.{Masks, of}
@@ -44,11 +45,23 @@ module _ (m : Meaning) (s : Snapshot) (xs : List Snapshot) where
       let three : 0 < length (levels xs) = omega (arith, ap length one) in
       rw (← two) (Step.backs (of x) (levels ys) (back_goes m void (length (levels xs)) v three) one)
 
-  pub not_backed : (void : Bool) (ys : List Snapshot) (o : Option Snapshot) (e : PlanFault) → void ≡ false → xs ≡ ys ++ option_to_list o → (0 < length xs → IsSome o) → ok_or o NoLevel ≡ Err e
-      → Step m (with_void void) back (refused e) (record { now = of s; below = levels ys; void = void })
-  not_backed void ys None e v p q k =
-      let fault : NoLevel ≡ e = cc in
-      let none : length xs ≡ 0 = ⊎_elim (λ (h : 0 < length xs). let z : ◌≡◌ {A = Bool} false true = q h in cc) (λ (h : length xs ≤ 0). omega arith) (cases_lt 0 (length xs)) in
-      let same : levels xs ≡ levels ys = ap levels (p ∙ append-nil ys) in
-      rw (← fault, ← same) (Step.refuses back NoLevel (back_none m void (length (levels xs)) v (omega (arith, length_levels xs, none))))
-  not_backed void ys (Some x) e v p q k = cc
+  pub no_back_level : (void : Bool) → void ≡ false → length xs ≡ 0 → Step m (with_void void) back (refused NoLevel) (with_void void)
+  no_back_level void v none = Step.refuses back NoLevel (back_none m void (length (levels xs)) v (omega (arith, length_levels xs, none)))
+
+-- the last of the levels, if there is one, stands behind the others
+pub last_found : (xs ys : List Snapshot) (n : ℕ) (x : Snapshot) → slice_get xs (length xs - 1) ≡ Some x → n ≡ length xs → ys ≡ take (n - 1) xs → xs ≡ ys ++ option_to_list (Some x)
+last_found xs ys n x e k l =
+    let within : length xs - 1 < length xs = slice_get_within xs (length xs - 1) x e in
+    let whole : length xs - 1 + 1 ≡ length xs = omega (arith, within) in
+    let seam : take (length xs - 1 + 1) xs ≡ take (length xs - 1) xs ++ get_or xs (length xs - 1) x ∷ [] = take_more xs (length xs - 1) x within in
+    sym (take-length xs)
+    ∙ ap (λ (j : ℕ). take j xs) (sym whole)
+    ∙ seam
+    ∙ ap (λ (y : Snapshot). take (length xs - 1) xs ++ y ∷ []) (get_or_from_slice_get xs (length xs - 1) x x e)
+    ∙ ap (λ (zs : List Snapshot). zs ++ x ∷ []) (sym (l ∙ ap (λ (j : ℕ). take (j - 1) xs) k))
+
+pub last_missing : (xs : List Snapshot) → slice_get xs (length xs - 1) ≡ None → length xs ≡ 0
+last_missing [] e = refl
+last_missing (x ∷ xs) e =
+    let some : slice_get (x ∷ xs) (length (x ∷ xs) - 1) ≡ Some (get_or (x ∷ xs) (length (x ∷ xs) - 1) x) = slice_get-get_or (x ∷ xs) (length (x ∷ xs) - 1) x (omega arith) in
+    cc (sym some ∙ e)

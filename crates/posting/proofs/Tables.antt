@@ -1,7 +1,5 @@
 -- A table that is one has no fault.
-use Rattle.std.proofs.Common.{ℕ, List, ⊎_elim, refl, arith}
-use Rattle.std.specs.Prelude.{replicate}
-use Rattle.std.proofs.lemmas.List.{get_or-replicate}
+use Rattle.std.proofs.Common.{ℕ, List, ⊎_elim, arith}
 use Rattle.refusals.specs.declared.PostFault.{PostFault}
 use Rattle.automata.specs.Faults.{TableFault, wrong_length, no_such_number, no_such_state}
 use Rattle.automata.specs.Kinds.{GoodTable}
@@ -10,7 +8,3 @@ pub good_has_no_fault : (s : ℕ) (steps : List ℕ) (e : PostFault) → GoodTab
 good_has_no_fault s steps e g (wrong_length f) = f g.whole
 good_has_no_fault s steps e g (no_such_number l n) = ⊎_elim (λ h. omega (arith, g.some)) (λ h. omega (arith, g.few)) n
 good_has_no_fault s steps e g (no_such_state l a b k f) = omega (arith, f.here, g.below k f.inside)
-
--- one state, and nothing counts
-pub blank_is_good : GoodTable 1 (replicate 16 0)
-blank_is_good = record { some = omega arith; few = omega arith; whole = refl; below = λ k h. omega (arith, get_or-replicate {A = ℕ} 16 k 0 0 h) }

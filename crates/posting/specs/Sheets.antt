@@ -1,5 +1,5 @@
 -- What a file has posted, in the words of the file.
-use Rattle.std.specs.Prelude.{ℕ, List, [], map, replicate, Some, None, vec_items, Option}
+use Rattle.std.specs.Prelude.{ℕ, ◌*◌, List, [], map, take, replicate, Some, None, vec_items, Option}
 use Rattle.automata.specs.declared.Among.{Among}
 use Rattle.words.specs.declared.Word.{Word}
 use Rattle.rules.specs.declared.Rule.{Rule}
@@ -46,7 +46,7 @@ abbrev pub duties_of : Word → List ℕ
 duties_of w = w.duties.items
 
 abbrev pub steps_of : KeptTable → Steps
-steps_of k = record { states = k.states; bytes = k.bytes.items }
+steps_of k = record { states = k.states; bytes = take (16 * k.states) k.bytes }
 
 abbrev pub sheet_of : FileDraft → Sheet
 sheet_of d = record {

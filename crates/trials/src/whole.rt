@@ -10,13 +10,13 @@ use interpreter::read;
 use posting::drafting::{Drafted, FileDraft};
 use posting::kept::KeptTable;
 use printing::{CellText, Entry, FaultText, MemoryText, RuleText};
-use refusals::{FileFault, LineError, LineFault};
+use refusals::{FileFault, LineError};
 use std::alloc::{AllocError, Global};
 use std::fmt::Display;
 use wire::digits::FrameBytes;
 use wire::lines::{Line, LineBuffer};
 use wire::order::Phase;
-use wire::reader::read_line;
+use wire::reader::{at_line, read_line};
 
 // The lines of a file, one by one, and what was printed of them. (The roster program has the like over
 // its standard input and output; this one is apart from it, so that neither hides a fault of the other.)
@@ -66,16 +66,16 @@ impl<'a> Desk<'a> {
     }
 
     // Prints a fault of the line.
-    fn stop(&mut self, fault: LineFault) -> Result<(), AllocError> {
-        let line = self.number;
-        self.print(&FaultText(FileFault { line, fault }))
+    fn stop(&mut self, fault: FileFault) -> Result<(), AllocError> {
+        self.print(&FaultText(fault))
     }
 
     // The same of a line before the start, for which there may be no memory.
     fn stop_draft(&mut self, error: LineError) -> Result<(), AllocError> {
+        let line = self.number;
         match error {
-            LineError::Fault(fault) => self.stop(fault),
-            LineError::Memory => self.print(&MemoryText { line: self.number }),
+            LineError::Fault(fault) => self.stop(FileFault { line, fault }),
+            LineError::Memory => self.print(&MemoryText { line }),
         }
     }
 }
@@ -111,7 +111,8 @@ fn plan_all(
         let Some(line) = desk.next() else {
             break;
         };
-        match read::plan_line(plan, line, workspace) {
+        let answer = read::plan_line(plan, line, workspace);
+        match at_line(desk.number, answer) {
             Ok(told) => {
                 desk.tell(told)?;
                 if let Told::Publish = told {
@@ -147,7 +148,8 @@ fn finish(desk: &mut Desk<'_>) -> Result<(), AllocError> {
         return Ok(());
     };
     let mut bytes = FrameBytes::new();
-    match read_line(Phase::Published, line, &mut bytes) {
+    let answer = read_line(Phase::Published, line, &mut bytes);
+    match at_line(desk.number, answer) {
         Ok(_) => Ok(()),
         Err(fault) => desk.stop(fault),
     }
@@ -159,8 +161,9 @@ fn carry_out(desk: &mut Desk<'_>, workspace: &mut [u64]) -> Result<(), AllocErro
     let Some(line) = desk.next() else {
         return Ok(());
     };
+    let answer = read::open(heap, line);
     // (The other arm prints.)
-    let mut draft = match read::open(heap, line) {
+    let mut draft = match at_line(desk.number, answer) {
         Ok(draft) => draft,
         Err(fault) => return desk.stop(fault),
     };

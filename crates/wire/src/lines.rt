@@ -5,11 +5,9 @@
 // line which is too long still shows that it is.
 //
 // Proved: in whatever chunks a line is read, the buffer holds its first 517 characters.
-ghost use Rattle.std.specs.Prelude.{◌≡◌, [], ◌++◌, length, take, MatchOption, ◌==◌};
+ghost use Rattle.std.specs.Prelude.{◌≡◌, ◌≤◌, [], ◌++◌, length, take, MatchOption, ◌==◌};
 ghost use Rattle.refusals.specs.First.{First};
 ghost use Rattle.wire.specs.Lines.{pushed, newline, Without, Grown};
-
-use arrayvec::ArrayVec;
 
 // The most characters that a line may have before its newline.
 pub const LONGEST: usize = 516;
@@ -32,40 +30,48 @@ fn first_newline(chunk: &[u8]) -> Option<usize>
     chunk.iter().position(|character| *character == b'\n')
 }
 
-// The beginning of the line that is being read.
+// The beginning of the line that is being read. (An array and its length: to clear an `ArrayVec` is to write
+// over all that it held, and a character pushed onto one costs four times as much.)
 #[derive(Drop)]
 pub struct LineBuffer {
-    text: ArrayVec<u8, KEPT>,
+    text: [u8; KEPT],
+    len: usize,
+    ghost within: { len ≤ 517 },
 }
 
 impl LineBuffer {
     // An empty buffer.
     pub fn new() -> LineBuffer
-        ensures { result.text.items ≡ [] }
+        ensures { take result.len result.text ≡ [] }
     {
         LineBuffer {
-            text: ArrayVec::new(),
+            text: [0; KEPT],
+            len: 0,
         }
     }
 
     // One character more.
     pub fn push(&mut self, character: u8)
-        ensures { self.new.text.items ≡ pushed self.old.text.items character }
+        ensures { take self.new.len self.new.text ≡ pushed (take self.old.len self.old.text) character }
     {
-        self.keep(&[character]);
+        if self.len < KEPT {
+            self.text[self.len] = character;
+            self.len += 1;
+        }
     }
 
     // What fits of a part of the line.
     fn keep(&mut self, part: &[u8])
-        ensures { self.new.text.items ≡ take 517 (self.old.text.items ++ part.now) }
+        ensures { take self.new.len self.new.text ≡ take 517 (take self.old.len self.old.text ++ part.now) }
     {
-        let room = self.text.remaining_capacity().min(part.len());
-        self.text.try_extend_from_slice(&part[..room]).unwrap();
+        let room = (KEPT - self.len).min(part.len());
+        self.text[self.len..self.len + room].copy_from_slice(&part[..room]);
+        self.len += room;
     }
 
     // The characters of a chunk up to its first newline. Answers where that newline is.
     pub fn extend(&mut self, chunk: &[u8]) -> Option<usize>
-        ensures { MatchOption result (Without chunk.now × Grown self.old.text.items self.new.text.items chunk.now) (λ k. First (λ c. c ≡ newline) chunk.now k × Grown self.old.text.items self.new.text.items (take k chunk.now)) }
+        ensures { MatchOption result (Without chunk.now × Grown (take self.old.len self.old.text) (take self.new.len self.new.text) chunk.now) (λ k. First (λ c. c ≡ newline) chunk.now k × Grown (take self.old.len self.old.text) (take self.new.len self.new.text) (take k chunk.now)) }
     {
         let end = first_newline(chunk);
         self.keep(&chunk[..end.unwrap_or(chunk.len())]);
@@ -74,25 +80,25 @@ impl LineBuffer {
 
     // Empties the buffer for the next line.
     pub fn clear(&mut self)
-        ensures { self.new.text.items ≡ [] }
+        ensures { take self.new.len self.new.text ≡ [] }
     {
-        self.text.clear();
+        self.len = 0;
     }
 
     // Whether the line has no character so far.
     pub fn is_empty(&self) -> bool
-        ensures { result ≡ (length self.now.text.items == 0) }
+        ensures { result ≡ (length (take self.now.len self.now.text) == 0) }
     {
-        self.text.is_empty()
+        self.len == 0
     }
 
     // The line so far, with or without its newline.
     pub fn line(&self, ended: bool) -> Line<'_>
-        ensures text { result.text.now ≡ self.now.text.items }
+        ensures text { result.text.now ≡ take self.now.len self.now.text }
         ensures ended { result.ended ≡ ended }
     {
         Line {
-            text: self.text.as_slice(),
+            text: &self.text[0..self.len],
             ended,
         }
     }

@@ -32,7 +32,12 @@ impl<F: Family> Plan<F> {
         if self.held.void {
             return Err(PlanFault::Void);
         }
-        self.held.masks = self.stack.pop().ok_or(PlanFault::NoLevel)?;
+        // (The masks are copied once, from the level itself: `pop` hands them on by way of three copies more.)
+        let Some(masks) = self.stack.as_slice().last() else {
+            return Err(PlanFault::NoLevel);
+        };
+        self.held.masks = *masks;
+        self.stack.truncate(self.stack.len() - 1);
         Ok(self.stack.len())
     }
 }

@@ -35,9 +35,9 @@ returns-in-Ok-Err g c =
     let f = c.in-Ok-Err.failure in
     let rounds : Settles m t (fails f.rule (place_of f.spot)) 0 0 s f.work.runs f.work.removed = search rules in
     record {
-      family = c.void_plan.ensures.family;
+      family = search rules;
       begun = λ h.
           start_void m (g.F.Family.lawful c.args.family) c.args.self.cells draft s c.start_masks-masks.ensures t f.work.runs f.work.removed
-          (view c.void_plan.result) f.rule (place_of f.spot) rounds c.void_plan.ensures.view;
+          _ f.rule (place_of f.spot) rounds (search rules);
       short = λ h. absurd (omega (arith, c.in-Ok-Err.ensures.0, h));
     }

@@ -1,15 +1,18 @@
-use Rattle.std.proofs.Common.{Ok, Err, Result, ◌∙◌, arith}
-use Rattle.std.specs.Result.{IsOk, OnOk}
-use Rattle.std.proofs.lemmas.List.{length-take}
+use Rattle.std.proofs.Common.{◌≡◌, ℕ, ◌+◌, ◌-◌, List, ◌++◌, length, take, ap, ◌∙◌, arith}
+use Rattle.std.proofs.lemmas.List.{length-take-le}
+use Rattle.std.proofs.lemmas.Slice.{take-put_mid}
 use Rattle.wire.proofs.Growing.{kept_part}
 use Rattle.wire.proofs.lines.LineBuffer.keep.Goals as goal
 
-when_ok : {T E : Type 0} (r : Result T E) (P : Type 0) → IsOk r → OnOk r P → P
-when_ok (Ok x) P h p = p
-when_ok (Err e) P h p = cc h
-
 pub returns : goal.returns
 returns c =
-    let fits = c.try_extend_from_slice.ensures.variant.1 (omega (arith, length-take c.min-room.result c.args.part.now)) in
-    when_ok _ _ fits c.try_extend_from_slice.ensures.ok
-    ∙ (rw c.min-room.ensures (kept_part c.args.self.now.text.items c.args.part.now c.remaining_capacity.result c.remaining_capacity.ensures))
+    let text = c.args.self.now.text in
+    let len = c.args.self.now.len in
+    let part = c.args.part.now in
+    let room = c.min-room.result in
+    let after : c.copy_from_slice.new.self ≡ take room part = c.copy_from_slice.ensures.after in
+    let many : length c.copy_from_slice.new.self ≡ room = ap length after ∙ length-take-le room part (omega (arith, c.min-room.ensures)) in
+    let front : length (take len text) ≡ len = length-take-le len text (omega arith) in
+    take-put_mid len _ text c.copy_from_slice.new.self (len + room) (omega (arith, many)) (omega arith)
+    ∙ ap (λ (xs : List ℕ). take len text ++ xs) (after ∙ ap (λ (n : ℕ). take n part) c.min-room.ensures)
+    ∙ kept_part (take len text) part (517 - len) (omega (arith, front))
