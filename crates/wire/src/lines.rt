@@ -31,7 +31,7 @@ fn first_newline(chunk: &[u8]) -> Option<usize>
 }
 
 // The beginning of the line that is being read. (An array and its length: to clear an `ArrayVec` is to write
-// over all that it held, and a character pushed onto one costs four times as much.)
+// over all that it held, and to push a character onto one took three times as long.)
 #[derive(Drop)]
 pub struct LineBuffer {
     text: [u8; KEPT],

@@ -32,7 +32,7 @@ impl<F: Family> Plan<F> {
         if self.held.void {
             return Err(PlanFault::Void);
         }
-        // (The masks are copied once, from the level itself: `pop` hands them on by way of three copies more.)
+        // (The masks are copied from the level itself: `pop`, and what unwraps it, copy them once more.)
         let Some(masks) = self.stack.as_slice().last() else {
             return Err(PlanFault::NoLevel);
         };
